@@ -12,7 +12,7 @@ use Rattle.record_collect.specs.Gatherings.{AreGatheredOf, AreRecordsOfEach, Are
 use Rattle.record_collect.specs.Limits.{limit}
 use Rattle.record_collect.proofs.WholeGatherings.{fits}
 use Rattle.record_collect.proofs.WovenCosts.{woven-cost}
-use Rattle.join_command.proofs.Weaves.{too_long_or_short}
+use Rattle.record_collect.proofs.Weaves.{too_long_or_short}
 
 -- the record at a number is short
 abbrev IsShortAt : List (List ℕ) → ℕ → Type 0

@@ -9,4 +9,3 @@ pub mod CollectSteps
 mod CollectValues
 pub mod FileLines
 pub mod OneCollected
-pub mod Weaves

@@ -10,7 +10,6 @@ use Rattle.record_collect.specs.declared.feeding.Coverage.TheVariants.{Whole, Fr
 use Rattle.record_collect.specs.declared.gathering.GatherEnd.{GatherEnd}
 use Rattle.record_collect.specs.Ends.{IsGatheredBy, gather_end_of}
 use Rattle.record_collect.specs.Gatherings.{GatheredValue}
-use Rattle.record_collect.specs.Passes.{PassValue}
 use Rattle.record_collect.specs.Takings.{AreRead, IsFirstStopped, IsRead, both_taken}
 
 -- what stands behind a list, and what stands in it
@@ -18,7 +17,7 @@ pub stands-behind : {X : Type 0} (xs : List X) (y : X) (ys : List X) → slice_g
 stands-behind [] y ys = refl
 stands-behind (x ∷ xs) y ys = stands-behind xs y ys
 
-stands-before : {X : Type 0} (xs ys : List X) (i : ℕ) (x : X) → slice_get xs i ≡ Some x → slice_get (xs ++ ys) i ≡ Some x
+pub stands-before : {X : Type 0} (xs ys : List X) (i : ℕ) (x : X) → slice_get xs i ≡ Some x → slice_get (xs ++ ys) i ≡ Some x
 stands-before [] ys i x there = absurd cc
 stands-before (z ∷ xs) ys zero x there = there
 stands-before (z ∷ xs) ys (suc i) x there = stands-before xs ys i x there
@@ -54,11 +53,11 @@ pub read_as : (answers : List (Result Coverage ReadEnd)) (part form : Coverage) 
 read_as answers part form is h = subst (AreRead answers) is h
 
 -- how gathering ends by the first file that was not read to its end
-pub stopped_as : (passes : List PassValue) (answers : List (Result Coverage ReadEnd)) (at : ℕ) (end : ReadEnd) (result : Result GatheredValue GatherEnd)
-    → result ≡ Err (gather_end_of at end) → IsFirstStopped answers at end → IsGatheredBy result passes answers
-stopped_as passes answers at end result is first =
-    subst (λ (r : Result GatheredValue GatherEnd). IsGatheredBy r passes answers) (sym is) (by_end end first) where
-      by_end : (end : ReadEnd) → IsFirstStopped answers at end → IsGatheredBy (Err (gather_end_of at end)) passes answers
+pub stopped_as : (files : List (List (List ℕ))) (answers : List (Result Coverage ReadEnd)) (at : ℕ) (end : ReadEnd) (result : Result GatheredValue GatherEnd)
+    → result ≡ Err (gather_end_of at end) → IsFirstStopped answers at end → IsGatheredBy result files answers
+stopped_as files answers at end result is first =
+    subst (λ (r : Result GatheredValue GatherEnd). IsGatheredBy r files answers) (sym is) (by_end end first) where
+      by_end : (end : ReadEnd) → IsFirstStopped answers at end → IsGatheredBy (Err (gather_end_of at end)) files answers
       by_end (read.Refused fault) first = first
       by_end read.Store first = (at, first.there)
       by_end read.Memory first = tt

@@ -1,5 +1,5 @@
--- Files whose records a pass puts.
-use Rattle.std.proofs.Common.{◌≡◌, ℕ, Bool, false, Option, List, [], ◌∷◌, ◌++◌, Some, None, IfSome, refl, sym, ap, subst}
+-- Files whose records are held.
+use Rattle.std.proofs.Common.{◌≡◌, ℕ, Bool, false, Option, List, [], ◌∷◌, ◌++◌, Some, None, IfSome, refl, sym, subst}
 use Rattle.std.proofs.lemmas.List.{append-nil}
 use Rattle.record_values.specs.declared.file_totals.Totals.{Totals}
 use Rattle.chunk_header.specs.Chunks.{ChunkValue}
@@ -14,30 +14,29 @@ use Rattle.chunk_reader.specs.declared.reasons.Fault.{Fault}
 use Rattle.chunk_reader.proofs.ChainSteps.{IsChainOf-nil}
 use Rattle.record_collect.specs.declared.feeding.Coverage.{Coverage}
 use Rattle.record_collect.specs.declared.feeding.Coverage.TheVariants.{Whole}
-use Rattle.record_collect.specs.Passes.{PassValue, IsFresh, pass_records}
 use Rattle.record_collect.specs.Takings.{IsTakenOf, IsTakenSoFar, TakesOn}
 
 -- the records of one chunk
 records_of_one : (k : ChunkValue) (held : List (List ℕ)) → Holds k held → AreRecordsOf (k ∷ []) held
 records_of_one k held h = (held ∷ [], (h, refl), sym (append-nil held))
 
--- no chunk yet, and nothing put
-pub taken-fresh : (bytes : Option (List ℕ)) (totals : Totals) (pass : PassValue) → totals ≡ record { chunks = 0; records = 0; bytes = 0; unread = 0 } → IsFresh pass
-    → IfSome bytes (λ file. IsTakenSoFar file totals Whole pass)
-taken-fresh None totals pass none fresh = tt
-taken-fresh (Some file) totals pass none fresh =
-    subst (λ (t : Totals). IsTakenSoFar file t Whole pass) (sym none)
+-- no chunk yet, and nothing held
+pub taken-fresh : (bytes : Option (List ℕ)) (totals : Totals) (held : List (List ℕ)) → totals ≡ record { chunks = 0; records = 0; bytes = 0; unread = 0 } → held ≡ []
+    → IfSome bytes (λ file. IsTakenSoFar file totals Whole held)
+taken-fresh None totals held none fresh = tt
+taken-fresh (Some file) totals held none fresh =
+    subst (λ (t : Totals). IsTakenSoFar file t Whole held) (sym none)
     (record {
       chunks = [];
       records = [];
       chain = IsChainOf-nil file;
       counted = refl;
       are = ([], refl, refl);
-      has = (ap (λ m. pass_records (record pass { mine = m })) fresh.0, fresh.1);
+      has = fresh;
     })
 
 -- one chunk more
-pub taken-more : (bytes : Option (List ℕ)) (before after : ReaderValue) (j : Judged) (held : List (List ℕ)) (part more : Coverage) (old new : PassValue)
+pub taken-more : (bytes : Option (List ℕ)) (before after : ReaderValue) (j : Judged) (held : List (List ℕ)) (part more : Coverage) (old new : List (List ℕ))
     → before.unread_ok ≡ false → IsNextChunk bytes before after j → Holds (value_of_chunk j.chunk) held → TakesOn part old more new held
     → IfSome bytes (λ file. IsTakenSoFar file before.totals part old → IsTakenSoFar file after.totals more new)
 taken-more None before after j held part more old new strict h holds takes = tt
@@ -56,10 +55,10 @@ taken-more (Some file) before after j held part more old new strict h holds take
     }
 
 -- and the whole file
-pub taken-whole : (bytes now : Option (List ℕ)) (at : ReaderValue) (part : Coverage) (pass : PassValue) → now ≡ bytes → at.unread_ok ≡ false → IsReadWhole now at
-    → IfSome bytes (λ file. IsTakenSoFar file at.totals part pass) → IfSome bytes (λ file. IsTakenOf file part pass)
-taken-whole None now at part pass same strict h s = tt
-taken-whole (Some file) now at part pass same strict h s =
+pub taken-whole : (bytes now : Option (List ℕ)) (at : ReaderValue) (part : Coverage) (held : List (List ℕ)) → now ≡ bytes → at.unread_ok ≡ false → IsReadWhole now at
+    → IfSome bytes (λ file. IsTakenSoFar file at.totals part held) → IfSome bytes (λ file. IsTakenOf file part held)
+taken-whole None now at part held same strict h s = tt
+taken-whole (Some file) now at part held same strict h s =
     let whole = (subst (λ (b : Option (List ℕ)). IsReadWhole b at) same h).whole in
     let chain = subst (λ (unread_ok : Bool). IsChainOf (IsAllowed unread_ok) s.chunks file at.totals.bytes) (sym strict) s.chain in
     record {

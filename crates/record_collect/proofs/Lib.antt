@@ -12,3 +12,5 @@ pub mod FedThreads
 pub mod AllRead
 pub mod WholeGatherings
 mod Values
+pub mod Weaves
+pub mod InTurn

@@ -1,10 +1,10 @@
 -- Chunks of records, counted, and where their records stand.
-use Rattle.std.proofs.Common.{◌≡◌, ◌∙◌, ℕ, zero, suc, ◌+◌, ◌*◌, ◌^◌, ◌≤◌, Bool, true, false, not, ◌&&◌, ◌||◌, Some, None, List, [], ◌∷◌, ◌++◌, length, map, drop, ltb, refl, sym, ap, subst, inl, inr, arith}
+use Rattle.std.proofs.Common.{◌≡◌, ◌∙◌, ℕ, zero, suc, ◌+◌, ◌*◌, ◌^◌, ◌≤◌, Bool, true, false, not, ◌&&◌, ◌||◌, Some, None, List, [], ◌∷◌, ◌++◌, length, map, drop, take, ltb, refl, sym, ap, subst, inl, inr, arith}
 use Rattle.std.proofs.Math.Dec.{eqb}
 use Rattle.std.specs.List.{concat, enumerate_from, flat_map, range_with_len, slice_get}
 use Rattle.std.proofs.lemmas.Bool.{cond_both, cond-true, cond-false, cases_lt, eqb-true, eq-eqb}
-use Rattle.std.proofs.lemmas.List.{append_assoc, append-nil, drop_more, length-append}
-use Rattle.std.proofs.lemmas.List.Sums.{sum_by-cons}
+use Rattle.std.proofs.lemmas.List.{append_assoc, append-nil, drop_more, length-append, take_more}
+use Rattle.std.proofs.lemmas.List.Sums.{sum_by-append, sum_by-cons}
 use Rattle.std.proofs.lemmas.Option.{slice_get_within, get_or_from_slice_get}
 use Rattle.varint_wire.specs.Varint.{shortest}
 use Rattle.varint_wire.proofs.Spellings.{length-shortest}
@@ -27,7 +27,7 @@ use Rattle.record_group.proofs.RecordFiles.{HoldEach-chunks_of}
 use Rattle.record_group.proofs.Signed.{end_of_chunk-signature}
 use Rattle.record_collect.specs.declared.file_places.OpenChunk.{OpenChunk}
 use Rattle.record_collect.specs.FilePlaces.{placed_in_file, places_in_file}
-use Rattle.record_collect.specs.OpenChunks.{IsSound, closes, end_of_open, next_place, opened_at, reach, ready_for, with_record}
+use Rattle.record_collect.specs.OpenChunks.{IsSound, PlacesOn, closes, end_of_open, next_place, opened_at, places_from, reach, ready_for, with_record}
 
 -- bytes end near their begin: less than two block headers, and one more for each block's bytes, lie between
 end_of-near : (begin size : ℕ) → 1 ≤ size → end_of begin size ≤ begin + 2 * size + 48
@@ -71,13 +71,6 @@ closes_some size len chunk is =
           let no : false ≡ true = sym stays ∙ is in
           cc
     ]
-
--- the positions that records get, one after another
-abbrev pub places_from : ℕ → OpenChunk → List (List ℕ) → List ℕ
-places_from size chunk [] = []
-places_from size chunk (r ∷ rs) =
-    let ready : OpenChunk = ready_for size (length r) chunk in
-    next_place ready ∷ places_from size (with_record (length r) ready) rs
 
 -- a group, counted
 abbrev pub counted : ℕ → List (List ℕ) → OpenChunk
@@ -241,3 +234,46 @@ rest_none [] zero past = refl
 rest_none [] (suc i) past = refl
 rest_none (r ∷ records) zero past = absurd (omega (arith, past))
 rest_none (r ∷ records) (suc i) past = rest_none records i (omega (arith, past))
+
+-- records and those behind them
+pub places_on_none : (size : ℕ) (chunk : OpenChunk) (before : List ℕ) → PlacesOn size chunk before [] chunk before
+places_on_none size chunk before = record { all = λ later. refl }
+
+pub places_on_then : (size : ℕ) (a b c : OpenChunk) (x y z : List ℕ) (records more : List (List ℕ)) → PlacesOn size a x records b y → PlacesOn size b y more c z
+    → PlacesOn size a x (records ++ more) c z
+places_on_then size a b c x y z records more h g = record {
+  all = λ later.
+      g.all later
+      ∙ h.all (more ++ later)
+      ∙ ap (λ (rs : List (List ℕ)). x ++ places_from size a rs) (sym (append_assoc records more later));
+}
+
+-- all of them from the first chunk on are those of the file
+pub places_on_file : (size : ℕ) (chunk : OpenChunk) (places : List ℕ) (records : List (List ℕ)) → PlacesOn size (opened_at 64) [] records chunk places
+    → places ≡ places_in_file records size
+places_on_file size chunk places records h =
+    sym (append-nil places)
+    ∙ h.all []
+    ∙ ap (places_from size (opened_at 64)) (append-nil records)
+    ∙ places_are records size
+
+-- one record more
+pub places_on_next : (size : ℕ) (a b c : OpenChunk) (x y z : List ℕ) (records : List (List ℕ)) (i : ℕ) (r : List ℕ) → slice_get records i ≡ Some r
+    → PlacesOn size a x (take i records) b y → c ≡ with_record (length r) (ready_for size (length r) b) → z ≡ y ++ next_place (ready_for size (length r) b) ∷ []
+    → PlacesOn size a x (take (i + 1) records) c z
+places_on_next size a b c x y z records i r there h chunk items =
+    let ready : OpenChunk = ready_for size (length r) b in
+    let one : PlacesOn size b y (r ∷ []) (with_record (length r) ready) (y ++ next_place ready ∷ []) =
+    record { all = λ later. append_assoc y (next_place ready ∷ []) (places_from size (with_record (length r) ready) later) } in
+    let here : PlacesOn size b y (r ∷ []) c z =
+    subst (λ (d : OpenChunk). PlacesOn size b y (r ∷ []) d z) (sym chunk)
+    (subst (λ (l : List ℕ). PlacesOn size b y (r ∷ []) (with_record (length r) ready) l) (sym items) one) in
+    subst (λ (rs : List (List ℕ)). PlacesOn size a x rs c z)
+    (sym (take_more records i r (slice_get_within records i r there) ∙ ap (λ (first : List ℕ). take i records ++ first ∷ []) (get_or_from_slice_get records i r r there)))
+    (places_on_then size a b c x y z (take i records) (r ∷ []) h here)
+
+-- what records so far cost, with one more
+pub cost_so_far : (records : List (List ℕ)) (i : ℕ) (r : List ℕ) → slice_get records i ≡ Some r → cost_of (take (i + 1) records) ≡ cost_of (take i records) + cost r
+cost_so_far records i r there =
+    ap cost_of (take_more records i r (slice_get_within records i r there) ∙ ap (λ (first : List ℕ). take i records ++ first ∷ []) (get_or_from_slice_get records i r r there))
+    ∙ omega (arith, sum_by-append cost (take i records) (r ∷ []), sum_by-cons cost r [])

@@ -1,42 +1,32 @@
--- What a pass has of records that it puts one after another.
-use Rattle.std.proofs.Common.{◌≡◌, ◌∙◌, ℕ, zero, suc, ◌+◌, Some, List, [], ◌∷◌, ◌++◌, take, sym, ap, subst, arith}
-use Rattle.std.specs.Prelude.{slice_get}
-use Rattle.std.proofs.lemmas.List.{append_assoc}
+-- What is held of records that come batch by batch.
+use Rattle.std.proofs.Common.{◌≡◌, ◌∙◌, ℕ, List, ◌++◌, sym, ap, subst, inl, inr, arith}
+use Rattle.std.proofs.lemmas.List.Sums.{sum_by-append}
+use Rattle.simple_chunk.specs.Costs.{cost}
+use Rattle.record_collect.specs.Batches.{AreTooMuch}
+use Rattle.record_collect.specs.Takings.{TakesOn}
 use Rattle.record_collect.specs.declared.feeding.Coverage.{Coverage}
-use Rattle.record_collect.specs.declared.feeding.Coverage.TheVariants.{Front}
-use Rattle.record_collect.specs.Passes.{PassValue, pass_records}
-use Rattle.record_collect.specs.Takings.{HasAccepted, TakesOn}
+use Rattle.record_collect.specs.declared.feeding.Coverage.TheVariants.{Whole, Front}
+use Rattle.record_collect.proofs.AllRead.{stands-before}
 
--- one after the other
-pub takes-then : (a b c : Coverage) (p q r : PassValue) (first second : List (List ℕ)) → TakesOn a p b q first → TakesOn b q c r second
-    → TakesOn a p c r (first ++ second)
-takes-then a b c p q r first second h g = record {
-  behind = λ records has. subst (HasAccepted c r) (append_assoc records first second) (g.behind (records ++ first) (h.behind records has));
-}
+-- records that are too much are so with more behind them
+pub too_much_before : (records more : List (List ℕ)) → AreTooMuch records → AreTooMuch (records ++ more)
+too_much_before records more (inl h) =
+    inl (record { number = h.number; long = h.long; there = stands-before records more h.number h.long h.there; too_long = h.too_long })
+too_much_before records more (inr over) = inr (omega (arith, over, sum_by-append cost records more))
 
--- where a record was refused, none behind it is put
-takes-refused : (pass : PassValue) (more : List (List ℕ)) → TakesOn Front pass Front pass more
-takes-refused pass more = record {
-  behind = λ records has. (
-    has.0,
-    has.1 ++ more,
-    ap (λ (l : List (List ℕ)). l ++ more) has.2 ∙ append_assoc (pass_records pass) (has.0 ∷ has.1) more,
-    has.3,
-  );
-}
+-- a batch is taken behind those that are held, or refused since all are too much then
+pub takes_more : (part : Coverage) (old new more : List (List ℕ)) → part ≡ Whole → new ≡ old ++ more → TakesOn part old Whole new more
+takes_more part old new more is taken =
+    subst (λ (p : Coverage). TakesOn p old Whole new more) (sym is)
+    (record { behind = λ records has. taken ∙ ap (λ (l : List (List ℕ)). l ++ more) has })
 
--- whatever is put of what stands behind a refused record, and what is put where none was
-pub takes_front : (part : Coverage) (pass : PassValue) (more : List (List ℕ)) → part ≡ Front → TakesOn part pass Front pass more
-takes_front part pass more is = subst (λ (p : Coverage). TakesOn p pass Front pass more) (sym is) (takes-refused pass more)
+pub takes_no_more : (part : Coverage) (old new more : List (List ℕ)) → part ≡ Whole → AreTooMuch (old ++ more) → TakesOn part old Front new more
+takes_no_more part old new more is much =
+    subst (λ (p : Coverage). TakesOn p old Front new more) (sym is)
+    (record { behind = λ records has. subst (λ (l : List (List ℕ)). AreTooMuch (l ++ more)) has much })
 
--- one record more of a list
-pub takes-one : (a b c : Coverage) (p q r : PassValue) (list : List (List ℕ)) (i : ℕ) (bytes : List ℕ) → slice_get list i ≡ Some bytes → TakesOn a p b q (take i list)
-    → TakesOn b q c r (bytes ∷ []) → TakesOn a p c r (take (i + 1) list)
-takes-one a b c p q r list i bytes there h g =
-    let one_more : i + 1 ≡ suc i = omega arith in
-    subst (TakesOn a p c r) (sym (ap (λ (n : ℕ). take n list) one_more ∙ next list i there)) (takes-then a b c p q r (take i list) (bytes ∷ []) h g)
-  where
-    next : (list : List (List ℕ)) (i : ℕ) → slice_get list i ≡ Some bytes → take (suc i) list ≡ take i list ++ bytes ∷ []
-    next [] i there = absurd cc
-    next (x ∷ list) zero there = let is : x ≡ bytes = cc in ap (λ (y : List ℕ). y ∷ []) is
-    next (x ∷ list) (suc i) there = ap (λ (l : List (List ℕ)). x ∷ l) (next list i there)
+-- and nothing is taken where they were too much before
+pub takes_none : (part : Coverage) (old new more : List (List ℕ)) → part ≡ Front → TakesOn part old Front new more
+takes_none part old new more is =
+    subst (λ (p : Coverage). TakesOn p old Front new more) (sym is)
+    (record { behind = λ records has. too_much_before records more has })

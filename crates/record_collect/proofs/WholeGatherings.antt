@@ -1,15 +1,13 @@
 -- What is answered of files whose records were gathered.
-use Rattle.std.proofs.Common.{◌≡◌, ◌∙◌, ◌⊎◌, ℕ, zero, suc, ◌+◌, ◌^◌, ◌<◌, ◌≤◌, false, Option, Result, List, [], ◌∷◌, ◌++◌, Some, None, Ok, Err, IfOk, inl, inr, map, length, refl, sym, ap, subst, arith}
+use Rattle.std.proofs.Common.{◌≡◌, ◌∙◌, ◌⊎◌, ℕ, zero, suc, ◌+◌, ◌^◌, ◌<◌, ◌≤◌, false, Option, Result, List, [], ◌∷◌, Some, Ok, Err, IfOk, inl, inr, length, refl, sym, ap, subst, arith}
 use Rattle.std.specs.Prelude.{slice_get}
 use Rattle.std.specs.List.{AllByRecursion, sum_by}
-use Rattle.std.specs.Option.{option_to_list}
-use Rattle.std.proofs.lemmas.Slice.Zip.{AllZip-long}
-use Rattle.std.proofs.lemmas.List.Sums.{sum_by-append, sum_by-cons}
+use Rattle.std.proofs.lemmas.List.Sums.{sum_by-cons}
 use Rattle.chunk_header.specs.Chunks.{ChunkValue}
 use Rattle.meta_chunk.specs.Files.{AreRecordsOf}
 use Rattle.meta_chunk.proofs.Chains.{AreLaid-one}
 use Rattle.meta_chunk.proofs.Held.{AreRecordsOf-one}
-use Rattle.simple_chunk.specs.Costs.{cost, cost_of}
+use Rattle.simple_chunk.specs.Costs.{cost_of}
 use Rattle.number_shares.proofs.Lists.{all_at}
 use Rattle.record_io.specs.ManyStores.{AreOnlyAsked, IfAllTell}
 use Rattle.chunk_reader.specs.Faults.{HaveNoFault, IsFirstFault}
@@ -21,190 +19,82 @@ use Rattle.record_collect.specs.declared.feeding.Coverage.{Coverage}
 use Rattle.record_collect.specs.declared.feeding.Coverage.TheVariants.{Whole, Front}
 use Rattle.record_collect.specs.declared.gathering.GatherEnd.{GatherEnd}
 use Rattle.record_collect.specs.declared.gathering.GatherEnd.TheVariants as gather
-use Rattle.number_shares.specs.Least.{IsLeast}
 use Rattle.record_collect.specs.Limits.{limit}
-use Rattle.record_collect.specs.Passes.{CollectorValue, PassValue, ends_of, pass_records, AreGathered, HaveReceipts}
 use Rattle.record_collect.specs.Gatherings.{AreWoven, GatheredValue, IsInBounds, AreGatheredOf, AreRecordsOfEach, HasTooLong, IsTooMuch}
-use Rattle.record_collect.specs.Ends.{IsGatheredBy, IsGatheredOf, TellsFirst}
-use Rattle.record_collect.specs.Takings.{AreFed, AreRead, HasAccepted, IsFirstStopped, WasRefused}
+use Rattle.record_collect.specs.Batches.{AreTooMuch, in_one, numbers_from}
+use Rattle.record_collect.specs.Ends.{IsGatheredBy, IsGatheredOf, IsInOneList, IsJoinedBy, TellsFirst}
+use Rattle.record_collect.specs.Takings.{AreFed, AreRead, HasTaken, IsFirstStopped}
 use Rattle.record_collect.proofs.WovenCosts.{woven-cost, woven-stands}
-use Rattle.record_collect.proofs.AllRead.{stands-behind}
-use Rattle.record_collect.proofs.FedThreads.{AreTakings, Taking, all-taken, answers_of, fed-asked, fed-many, first-refused, lists_of, passes_of}
+use Rattle.record_collect.proofs.Weaves.{in_turn-woven}
+use Rattle.record_collect.proofs.FedThreads.{AreTakings, Taking, all-taken, answers_of, fed-asked, fed-many, first-refused, helds_of, lists_of}
 
--- where each pass has all records of its file, these are the lists
-whole_list : (row : Taking) → row.part ≡ Whole → row.list ≡ pass_records row.pass
-whole_list row is = sym (subst (λ (part : Coverage). HasAccepted part row.pass row.list) is row.has).0
-
-whole_lists : (rows : List Taking) → AllByRecursion (λ a. a ≡ Ok Whole) (answers_of rows) → lists_of rows ≡ map pass_records (passes_of rows)
+-- where all records of each file are held, these are the lists
+whole_lists : (rows : List Taking) → AllByRecursion (λ a. a ≡ Ok Whole) (answers_of rows) → lists_of rows ≡ helds_of rows
 whole_lists [] all = refl
 whole_lists (row ∷ rows) all =
     let part : row.part ≡ Whole = (let is = all.0 in cc) in
-    ap (λ (l : List (List ℕ)). l ∷ lists_of rows) (whole_list row part) ∙ ap (λ (ls : List (List (List ℕ))). pass_records row.pass ∷ ls) (whole_lists rows all.1)
+    let list : row.list ≡ row.held = sym (subst (λ (part : Coverage). HasTaken part row.held row.list) part row.has) in
+    ap (λ (l : List (List ℕ)). l ∷ lists_of rows) list ∙ ap (λ (ls : List (List (List ℕ))). row.held ∷ ls) (whole_lists rows all.1)
 
--- there is a list of numbers for each pass
-pub many-gathered : (passes : List PassValue) (made : GatheredValue) → AreGathered passes made → length made.numbers ≡ length passes
-many-gathered passes made h = AllZip-long (HaveReceipts made.records) passes made.numbers h.receipts
-
-pub gathered-whole : (files : List (List ℕ)) (passes : List PassValue) (answers : List (Result Coverage ReadEnd)) (made : GatheredValue)
-    → AreTakings files passes answers → AreRead answers Whole → AreGathered passes made → IsInBounds made → AreGatheredOf files made
-gathered-whole files passes answers made h read are bounds =
+held-whole : (files : List (List ℕ)) (helds : List (List (List ℕ))) (answers : List (Result Coverage ReadEnd)) → AreTakings files helds answers
+    → AreRead answers Whole → AreRecordsOfEach files helds
+held-whole files helds answers h read =
     let all : AllByRecursion (λ a. a ≡ Ok Whole) (answers_of h.rows) = subst (AllByRecursion (λ a. a ≡ Ok Whole)) h.of_answers (read.whole refl) in
-    let same : map pass_records passes ≡ lists_of h.rows = ap (map pass_records) h.of_passes ∙ sym (whole_lists h.rows all) in
-    record {
-      lists = lists_of h.rows;
-      are = h.are;
-      woven = subst (λ (ls : List (List (List ℕ))). AreWoven ls made.records made.numbers) same are.woven;
-      bounds = bounds;
-    }
+    subst (AreRecordsOfEach files) (whole_lists h.rows all ∙ sym h.of_helds) h.are
 
--- what a pass has costs no more than the records of its file, and one that it was refused comes on top
-abbrev pub IsRefusedAt : Taking → List ℕ → Type 0
-IsRefusedAt row refused = (rest : List (List ℕ)) × (row.list ≡ pass_records row.pass ++ refused ∷ rest)
-
-refused-cost : (row : Taking) (refused : List ℕ) → IsRefusedAt row refused → cost_of (pass_records row.pass) + cost refused ≤ cost_of row.list
-refused-cost row refused (rest, is) =
-    let own : cost_of row.list ≡ cost_of (pass_records row.pass ++ refused ∷ rest) = ap cost_of is in
-    omega (arith, own, sum_by-append cost (pass_records row.pass) (refused ∷ rest), sum_by-cons cost refused rest)
-
-row-cost : (row : Taking) (part : Coverage) → row.part ≡ part → cost_of (pass_records row.pass) ≤ cost_of row.list
-row-cost row Whole is = omega (arith, ap cost_of (whole_list row is))
-row-cost row Front is =
-    let has = subst (λ (part : Coverage). HasAccepted part row.pass row.list) is row.has in
-    omega (arith, refused-cost row has.0 (has.1, has.2))
-
-rows-cost : (rows : List Taking) → sum_by cost_of (map pass_records (passes_of rows)) ≤ sum_by cost_of (lists_of rows)
-rows-cost [] = omega arith
-rows-cost (row ∷ rows) =
-    omega (
-      arith,
-      row-cost row row.part refl,
-      rows-cost rows,
-      sum_by-cons cost_of (pass_records row.pass) (map pass_records (passes_of rows)),
-      sum_by-cons cost_of row.list (lists_of rows),
-    )
-
-rows-refused : (rows : List Taking) (i : ℕ) (row : Taking) (refused : List ℕ) → slice_get rows i ≡ Some row → IsRefusedAt row refused
-    → sum_by cost_of (map pass_records (passes_of rows)) + cost refused ≤ sum_by cost_of (lists_of rows)
-rows-refused [] i row refused there h = absurd cc
-rows-refused (r ∷ rows) zero row refused there h =
-    let is : r ≡ row = cc in
-    let own = refused-cost r refused (subst (λ (q : Taking). IsRefusedAt q refused) (sym is) h) in
-    omega (
-      arith,
-      own,
-      rows-cost rows,
-      sum_by-cons cost_of (pass_records r.pass) (map pass_records (passes_of rows)),
-      sum_by-cons cost_of r.list (lists_of rows),
-    )
-rows-refused (r ∷ rows) (suc i) row refused there h =
-    omega (
-      arith,
-      row-cost r r.part refl,
-      rows-refused rows i row refused there h,
-      sum_by-cons cost_of (pass_records r.pass) (map pass_records (passes_of rows)),
-      sum_by-cons cost_of r.list (lists_of rows),
-    )
-
--- the row that an answer, or an end, is of
-row_answered : (rows : List Taking) (i : ℕ) (part : Coverage) → slice_get (answers_of rows) i ≡ Some (Ok part)
-    → (row : Taking) × (slice_get rows i ≡ Some row) × (row.part ≡ part)
-row_answered [] i part there = absurd cc
-row_answered (r ∷ rows) zero part there = (r, refl, cc)
-row_answered (r ∷ rows) (suc i) part there = row_answered rows i part there
-
-record IsEndedRow (rows : List Taking) (held : ℕ) : Type 0 where
-  number : ℕ
-  row : Taking
-  there : slice_get rows number ≡ Some row
-  ended : row.pass.ended ≡ Some held
-
-ended_later : (r : Taking) (rows : List Taking) (held : ℕ) → IsEndedRow rows held → IsEndedRow (r ∷ rows) held
-ended_later r rows held h = record { number = suc h.number; row = h.row; there = h.there; ended = h.ended }
-
-row_ended : (rows : List Taking) (k held : ℕ) → slice_get (ends_of (passes_of rows)) k ≡ Some held → IsEndedRow rows held
-row_ended [] k held there = absurd cc
-row_ended (r ∷ rows) k held there =
-    by (λ (n : ℕ) (at : slice_get (ends_of (passes_of rows)) n ≡ Some held). ended_later r rows held (row_ended rows n held at)) r.pass.ended refl k there
-  where
-    by : ((n : ℕ) → slice_get (ends_of (passes_of rows)) n ≡ Some held → IsEndedRow (r ∷ rows) held) → (o : Option ℕ) → r.pass.ended ≡ o → (k : ℕ)
-        → slice_get (option_to_list o ++ ends_of (passes_of rows)) k ≡ Some held → IsEndedRow (r ∷ rows) held
-    by later None is k there = later k there
-    by later (Some n) is zero there = record { number = 0; row = r; there = refl; ended = is ∙ there }
-    by later (Some n) is (suc k) there = later k there
-
-some_end : (rows : List Taking) (i : ℕ) (row : Taking) (held : ℕ) → slice_get rows i ≡ Some row → row.pass.ended ≡ Some held → ¬ (ends_of (passes_of rows) ≡ [])
-some_end [] i row held there ended = absurd cc
-some_end (r ∷ rows) zero row held there ended =
-    let is : r ≡ row = cc in
-    let own : r.pass.ended ≡ Some held = ap (λ (q : Taking). q.pass.ended) is ∙ ended in
-    λ none. (let no : held ∷ ends_of (passes_of rows) ≡ [] = ap (λ (o : Option ℕ). option_to_list o ++ ends_of (passes_of rows)) (sym own) ∙ none in cc)
-some_end (r ∷ rows) (suc i) row held there ended = by (some_end rows i row held there ended) r.pass.ended
-  where
-    by : ¬ (ends_of (passes_of rows) ≡ []) → (o : Option ℕ) → ¬ (option_to_list o ++ ends_of (passes_of rows) ≡ [])
-    by others None = others
-    by others (Some n) = λ none. cc
-
--- a record that is too long
-list_at : (rows : List Taking) (i : ℕ) (row : Taking) → slice_get rows i ≡ Some row → slice_get (lists_of rows) i ≡ Some row.list
-list_at [] i row there = absurd cc
-list_at (r ∷ rows) zero row there = let is : r ≡ row = cc in ap (λ (q : Taking). Some q.list) is
-list_at (r ∷ rows) (suc i) row there = list_at rows i row there
-
-too_long : (rows : List Taking) (i : ℕ) (row : Taking) (refused : List ℕ) → slice_get rows i ≡ Some row → IsRefusedAt row refused → 2 ^ 24 < length refused
-    → HasTooLong (lists_of rows)
-too_long rows i row refused there h long = record {
-  list_number = i;
-  number = length (pass_records row.pass);
-  list = row.list;
-  long = refused;
-  one_list = list_at rows i row there;
-  one_record = ap (λ (l : List (List ℕ)). slice_get l (length (pass_records row.pass))) h.1 ∙ stands-behind (pass_records row.pass) refused h.0;
-  too_long = long;
+pub gathered-whole : (files : List (List ℕ)) (helds : List (List (List ℕ))) (answers : List (Result Coverage ReadEnd)) (made : GatheredValue)
+    → AreTakings files helds answers → AreRead answers Whole → made ≡ in_one helds → IsInBounds made → AreGatheredOf files made
+gathered-whole files helds answers made h read is bounds = record {
+  lists = helds;
+  are = held-whole files helds answers h read;
+  woven = subst (λ (m : GatheredValue). AreWoven helds m.records m.numbers) (sym is) (in_turn-woven helds);
+  bounds = bounds;
 }
 
--- where the records of the passes cost the least number at which one ended, those of the files are too much
-over_at : (rows : List Taking) (n : ℕ) (h : IsEndedRow rows n) (part : Coverage) → h.row.part ≡ part → sum_by cost_of (map pass_records (passes_of rows)) ≡ n
-    → HasTooLong (lists_of rows) ⊎ (limit < sum_by cost_of (lists_of rows))
-over_at rows n h Whole is costs =
-    let has = subst (λ (part : Coverage). HasAccepted part h.row.pass h.row.list) is h.row.has in
-    let no : None ≡ Some n = sym has.1 ∙ h.ended in
-    absurd cc
-over_at rows n h Front is costs =
-    let has = subst (λ (part : Coverage). HasAccepted part h.row.pass h.row.list) is h.row.has in
-    let was : WasRefused h.row.pass has.0 = has.3 in
-    elim was [
-      | inl long ↦ inl (too_long rows h.number h.row has.0 h.there (has.1, has.2) long)
-      | inr full ↦
-          let same : Some full.0 ≡ Some n = sym full.1 ∙ h.ended in
-          let held : full.0 ≡ n = cc in
-          inr (omega (arith, costs, held, full.2, rows-refused rows h.number h.row has.0 h.there (has.1, has.2)))
-    ]
+-- where they cost more than the limit together, they are too much
+gathered-over : (files : List (List ℕ)) (helds : List (List (List ℕ))) (answers : List (Result Coverage ReadEnd)) → AreTakings files helds answers
+    → AreRead answers Whole → limit < sum_by cost_of helds → IsTooMuch files
+gathered-over files helds answers h read over = record { lists = helds; are = held-whole files helds answers h read; over = inr over }
 
-over : (rows : List Taking) (made : GatheredValue) (i : ℕ) → AreGathered (passes_of rows) made → slice_get (answers_of rows) i ≡ Some (Ok Front)
+-- and so where those of one file are
+too_much-at : (rows : List Taking) (i : ℕ) → slice_get (answers_of rows) i ≡ Some (Ok Front)
     → HasTooLong (lists_of rows) ⊎ (limit < sum_by cost_of (lists_of rows))
-over rows made i are there =
-    let at = row_answered rows i Front there in
-    let row : Taking = at.0 in
-    let has = subst (λ (part : Coverage). HasAccepted part row.pass row.list) at.2 row.has in
-    let was : WasRefused row.pass has.0 = has.3 in
-    elim was [
-      | inl long ↦ inl (too_long rows i row has.0 at.1 (has.1, has.2) long)
-      | inr full ↦
-          let least : IsLeast (cost_of made.records) (ends_of (passes_of rows)) = are.ended (some_end rows i row full.0 at.1 full.1) in
-          let ends = row_ended rows least.one.0 (cost_of made.records) least.one.1 in
-          over_at rows (cost_of made.records) ends ends.row.part refl (woven-cost (map pass_records (passes_of rows)) made.records made.numbers are.woven)
+too_much-at [] i there = absurd cc
+too_much-at (row ∷ rows) zero there =
+    let part : row.part ≡ Front = cc in
+    let much : AreTooMuch row.list = subst (λ (part : Coverage). HasTaken part row.held row.list) part row.has in
+    elim much [
+      | inl h ↦
+          inl (record { list_number = 0; number = h.number; list = row.list; long = h.long; one_list = refl; one_record = h.there; too_long = h.too_long })
+      | inr over ↦ inr (omega (arith, over, sum_by-cons cost_of row.list (lists_of rows)))
     ]
+too_much-at (row ∷ rows) (suc i) there = elim (too_much-at rows i there) [
+  | inl h ↦ inl (record {
+    list_number = suc h.list_number;
+    number = h.number;
+    list = h.list;
+    long = h.long;
+    one_list = h.one_list;
+    one_record = h.one_record;
+    too_long = h.too_long;
+  })
+  | inr over ↦ inr (omega (arith, over, sum_by-cons cost_of row.list (lists_of rows)))
+]
 
-pub gathered-front : (files : List (List ℕ)) (passes : List PassValue) (answers : List (Result Coverage ReadEnd)) (made : GatheredValue)
-    → AreTakings files passes answers → AreRead answers Front → AreGathered passes made → IsTooMuch files
-gathered-front files passes answers made h read are =
+gathered-front : (files : List (List ℕ)) (helds : List (List (List ℕ))) (answers : List (Result Coverage ReadEnd)) → AreTakings files helds answers
+    → AreRead answers Front → IsTooMuch files
+gathered-front files helds answers h read =
     let one = read.front refl in
     record {
       lists = lists_of h.rows;
       are = h.are;
-      over = over h.rows made one.0 (subst (λ (ps : List PassValue). AreGathered ps made) h.of_passes are)
-          (subst (λ (l : List (Result Coverage ReadEnd)). slice_get l one.0 ≡ Some (Ok Front)) h.of_answers one.1);
+      over = too_much-at h.rows one.0 (subst (λ (l : List (Result Coverage ReadEnd)). slice_get l one.0 ≡ Some (Ok Front)) h.of_answers one.1);
     }
+
+-- there is a list of numbers for each file
+many-numbers : (at : ℕ) (lists : List (List (List ℕ))) → length (numbers_from at lists) ≡ length lists
+many-numbers at [] = refl
+many-numbers at (list ∷ lists) = ap suc (many-numbers (at + length list) lists)
 
 -- files have one list of records each
 pub lists_one : (files : List (List ℕ)) (a b : List (List (List ℕ))) → AreRecordsOfEach files a → AreRecordsOfEach files b → a ≡ b
@@ -265,37 +155,71 @@ owed files (Err gather.TooMuch) h = owed-too_much files h
 owed files (Err gather.Store) h = record { refused = λ index fault first. inr (inl refl); too_much = λ much. inr (inl refl) }
 owed files (Err gather.Memory) h = record { refused = λ index fault first. inr (inr refl); too_much = λ much. inr (inr refl) }
 
--- what is answered, by what was put of the stores' files
-module _ {S L : Type 0} (bytes : S → Option (List ℕ)) (told : S → Option ℕ) (name : S → L) (faults : S → ℕ) (collector : CollectorValue)
-    (passes : List PassValue) (before after : List S) (answers given : List (Result Coverage ReadEnd))
-    (same : given ≡ answers) (fed : AreFed bytes told name faults collector passes before after answers) where
-  pub answers-gathered : (result : Result GatheredValue GatherEnd) → IsGatheredBy result passes given → IfAllTell bytes before (IsGatheredOf result)
-  answers-gathered (Ok made) (read, are, bounds) files tells =
+-- what is answered, by what is held of the stores' files
+module _ {S L : Type 0} (bytes : S → Option (List ℕ)) (told : S → Option ℕ) (name : S → L) (faults : S → ℕ)
+    (helds : List (List (List ℕ))) (before after : List S) (answers given : List (Result Coverage ReadEnd))
+    (same : given ≡ answers) (fed : AreFed bytes told name faults helds before after answers) where
+  pub answers-gathered : (result : Result GatheredValue GatherEnd) → IsGatheredBy result helds given → IfAllTell bytes before (IsGatheredOf result)
+  answers-gathered (Ok made) (read, is, bounds) files tells =
       let whole : AreRead answers Whole = subst (λ (l : List (Result Coverage ReadEnd)). AreRead l Whole) same read in
-      let taken = all-taken bytes told name faults collector passes before after answers files tells fed whole.each in
-      gathered-whole files passes answers made taken whole are bounds
+      let taken = all-taken bytes told name faults helds before after answers files tells fed whole.each in
+      gathered-whole files helds answers made taken whole is bounds
   answers-gathered (Err (gather.Refused index fault)) stopped files tells =
-      first-refused bytes told name faults collector passes before after answers files index fault tells fed
+      first-refused bytes told name faults helds before after answers files index fault tells fed
       (subst (λ (l : List (Result Coverage ReadEnd)). IsFirstStopped l index (read.Refused fault)) same stopped)
-  answers-gathered (Err gather.TooMuch) (made, read, are) files tells =
+  answers-gathered (Err gather.TooMuch) (inl read) files tells =
       let front : AreRead answers Front = subst (λ (l : List (Result Coverage ReadEnd)). AreRead l Front) same read in
-      let taken = all-taken bytes told name faults collector passes before after answers files tells fed front.each in
-      gathered-front files passes answers made taken front are
+      let taken = all-taken bytes told name faults helds before after answers files tells fed front.each in
+      gathered-front files helds answers taken front
+  answers-gathered (Err gather.TooMuch) (inr (read, over)) files tells =
+      let whole : AreRead answers Whole = subst (λ (l : List (Result Coverage ReadEnd)). AreRead l Whole) same read in
+      let taken = all-taken bytes told name faults helds before after answers files tells fed whole.each in
+      gathered-over files helds answers taken whole over
   answers-gathered (Err gather.Store) h files tells = tt
   answers-gathered (Err gather.Memory) h files tells = tt
 
-  pub answers-many : (result : Result GatheredValue GatherEnd) → IsGatheredBy result passes given → IfOk result (λ made. length made.numbers ≡ length before)
-  answers-many (Ok made) (read, are, bounds) =
-      many-gathered passes made are ∙ fed-many bytes told name faults collector passes before after answers fed
+  pub answers-many : (result : Result GatheredValue GatherEnd) → IsGatheredBy result helds given → IfOk result (λ made. length made.numbers ≡ length before)
+  answers-many (Ok made) (read, is, bounds) =
+      ap (λ (m : GatheredValue). length m.numbers) is ∙ many-numbers 0 helds ∙ fed-many bytes told name faults helds before after answers fed
   answers-many (Err end) h = tt
 
-  pub answers-asked : (result : Result GatheredValue GatherEnd) → IsGatheredBy result passes given
+  pub answers-asked : (result : Result GatheredValue GatherEnd) → IsGatheredBy result helds given
       → AreOnlyAsked bytes told name faults (result ≡ Err gather.Store) before after
-  answers-asked result h = fed-asked bytes told name faults collector passes before after answers fed (λ is. failed_at result h is) where
-    failed_at : (result : Result GatheredValue GatherEnd) → IsGatheredBy result passes given → result ≡ Err gather.Store
+  answers-asked result h = fed-asked bytes told name faults helds before after answers fed (λ is. failed_at result h is) where
+    failed_at : (result : Result GatheredValue GatherEnd) → IsGatheredBy result helds given → result ≡ Err gather.Store
         → (i : ℕ) × (slice_get answers i ≡ Some (Err read.Store))
     failed_at (Ok made) h is = absurd (cc is)
     failed_at (Err (gather.Refused index fault)) h is = absurd (cc is)
     failed_at (Err gather.TooMuch) h is = absurd (cc is)
     failed_at (Err gather.Store) (i, there) is = (i, subst (λ (l : List (Result Coverage ReadEnd)). slice_get l i ≡ Some (Err read.Store)) same there)
     failed_at (Err gather.Memory) h is = absurd (cc is)
+
+-- in one list they are the same, or memory was short
+pub listed-of : (all : GatheredValue) (result : Result GatheredValue GatherEnd) (files : List (List ℕ)) → IsInOneList result all
+    → AreGatheredOf files all → IsGatheredOf result files
+listed-of all (Ok made) files is gathered = subst (AreGatheredOf files) (sym is) gathered
+listed-of all (Err (gather.Refused index fault)) files is gathered = absurd is
+listed-of all (Err gather.TooMuch) files is gathered = absurd is
+listed-of all (Err gather.Store) files is gathered = absurd is
+listed-of all (Err gather.Memory) files is gathered = tt
+
+pub listed-many : (all : GatheredValue) (result : Result GatheredValue GatherEnd) (n : ℕ) → IsInOneList result all
+    → length all.numbers ≡ n → IfOk result (λ made. length made.numbers ≡ n)
+listed-many all (Ok made) n is many = ap (λ (m : GatheredValue). length m.numbers) is ∙ many
+listed-many all (Err end) n is many = tt
+
+pub listed-store : (all : GatheredValue) (result : Result GatheredValue GatherEnd) → IsInOneList result all → ¬ (result ≡ Err gather.Store)
+listed-store all (Ok made) is failed = cc
+listed-store all (Err (gather.Refused index fault)) is failed = cc
+listed-store all (Err gather.TooMuch) is failed = cc
+listed-store all (Err gather.Store) is failed = is
+listed-store all (Err gather.Memory) is failed = cc
+
+-- how gathering ends where all files were read to their ends and none is too much
+pub joined_as : (result : Result GatheredValue GatherEnd) (helds : List (List (List ℕ))) (answers : List (Result Coverage ReadEnd)) → IsJoinedBy result helds
+    → AreRead answers Whole → IsGatheredBy result helds answers
+joined_as (Ok made) helds answers h read = (read, h.0, h.1)
+joined_as (Err (gather.Refused index fault)) helds answers h read = absurd h
+joined_as (Err gather.TooMuch) helds answers h read = inr (read, h)
+joined_as (Err gather.Store) helds answers h read = absurd h
+joined_as (Err gather.Memory) helds answers h read = tt

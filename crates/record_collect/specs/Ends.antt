@@ -1,11 +1,14 @@
 -- Inside. How gathering ends, and what it says of files and passes then. Own.
-use Rattle.std.specs.Prelude.{◌≡◌, ℕ, ◌⊎◌, false, Some, Result, Ok, Err, List, slice_get}
+use Rattle.std.specs.Prelude.{◌≡◌, ℕ, ◌<◌, ◌⊎◌, false, Some, Result, Ok, Err, List, slice_get}
+use Rattle.std.specs.List.{sum_by}
+use Rattle.simple_chunk.specs.Costs.{cost_of}
 use Rattle.chunk_reader.specs.Faults.{IsFirstFault}
 use Rattle.chunk_reader.specs.declared.reasons.Fault.{Fault}
 use Rattle.chunk_reader.specs.declared.reasons.ReadEnd.{ReadEnd}
 use Rattle.chunk_reader.specs.declared.reasons.ReadEnd.TheVariants as read
 use Rattle.record_collect.specs.Gatherings.{AreGatheredOf, GatheredValue, IsInBounds, IsTooMuch}
-use Rattle.record_collect.specs.Passes.{AreGathered, PassValue}
+use Rattle.record_collect.specs.Batches.{in_one}
+use Rattle.record_collect.specs.Limits.{limit}
 use Rattle.record_collect.specs.Takings.{AreRead, IsFirstStopped}
 use Rattle.record_collect.specs.declared.feeding.Coverage.{Coverage}
 use Rattle.record_collect.specs.declared.feeding.Coverage.TheVariants.{Whole, Front}
@@ -26,13 +29,26 @@ IsGatheredOf (Err gather.TooMuch) files = IsTooMuch files
 IsGatheredOf (Err gather.Store) files = Unit {0}
 IsGatheredOf (Err gather.Memory) files = Unit {0}
 
--- and what passes are, and the answers of their stores
-abbrev pub IsGatheredBy : Result GatheredValue GatherEnd → List PassValue → List (Result Coverage ReadEnd) → Type 0
-IsGatheredBy (Ok made) passes answers = AreRead answers Whole × AreGathered passes made × IsInBounds made
-IsGatheredBy (Err (gather.Refused index fault)) passes answers = IsFirstStopped answers index (read.Refused fault)
-IsGatheredBy (Err gather.TooMuch) passes answers = (made : GatheredValue) × AreRead answers Front × AreGathered passes made
-IsGatheredBy (Err gather.Store) passes answers = (i : ℕ) × (slice_get answers i ≡ Some (Err read.Store))
-IsGatheredBy (Err gather.Memory) passes answers = Unit {0}
+-- how the records held of files end up in one: they are too much, or stand one file behind another
+abbrev pub IsJoinedBy : Result GatheredValue GatherEnd → List (List (List ℕ)) → Type 0
+IsJoinedBy (Ok made) files = (made ≡ in_one files) × IsInBounds made
+IsJoinedBy (Err gather.TooMuch) files = limit < sum_by cost_of files
+IsJoinedBy (Err gather.Memory) files = Unit {0}
+IsJoinedBy (Err other) files = ⊥
+
+-- and in one list: they are these, unless memory was short
+abbrev pub IsInOneList : Result GatheredValue GatherEnd → GatheredValue → Type 0
+IsInOneList (Ok made) all = made ≡ all
+IsInOneList (Err gather.Memory) all = Unit {0}
+IsInOneList (Err other) all = ⊥
+
+-- and what is held of files, and the answers of their stores
+abbrev pub IsGatheredBy : Result GatheredValue GatherEnd → List (List (List ℕ)) → List (Result Coverage ReadEnd) → Type 0
+IsGatheredBy (Ok made) files answers = AreRead answers Whole × (made ≡ in_one files) × IsInBounds made
+IsGatheredBy (Err (gather.Refused index fault)) files answers = IsFirstStopped answers index (read.Refused fault)
+IsGatheredBy (Err gather.TooMuch) files answers = AreRead answers Front ⊎ (AreRead answers Whole × (limit < sum_by cost_of files))
+IsGatheredBy (Err gather.Store) files answers = (i : ℕ) × (slice_get answers i ≡ Some (Err read.Store))
+IsGatheredBy (Err gather.Memory) files answers = Unit {0}
 
 -- the first file with a fault is told, and that the records are too much, unless a store or memory failed
 pub record TellsFirst (result : Result GatheredValue GatherEnd) (files : List (List ℕ)) : Type 0 where

@@ -2,6 +2,7 @@ pub mod Limits
 pub mod Puts
 pub mod Passes
 pub mod Gatherings
+pub mod Batches
 pub mod Orders
 pub mod FilePlaces
 pub mod OpenChunks

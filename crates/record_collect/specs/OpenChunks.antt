@@ -1,5 +1,5 @@
 -- Inside. The chunk that the next record goes into, as its place is counted. Own.
-use Rattle.std.specs.Prelude.{ℕ, ◌+◌, ◌*◌, ◌≤◌, Bool, not, ◌&&◌, ◌==◌, length, nat_lt, if◌then◌else◌}
+use Rattle.std.specs.Prelude.{◌≡◌, ℕ, ◌+◌, ◌*◌, ◌≤◌, List, [], ◌∷◌, ◌++◌, Bool, not, ◌&&◌, ◌==◌, length, nat_lt, if◌then◌else◌}
 use Rattle.varint_wire.specs.Varint.{shortest}
 use Rattle.block_layout.specs.Layout.{chunk_header_size, IsBoundary, chunk_end_of}
 use Rattle.record_collect.specs.declared.file_places.OpenChunk.{OpenChunk}
@@ -37,3 +37,14 @@ pub record IsSound (chunk : OpenChunk) : Type 0 where
 -- how far it reaches, at most, if it has a record
 abbrev pub reach : OpenChunk → ℕ
 reach chunk = chunk.begin + 23 * (chunk.values + 8 * chunk.records)
+
+-- the positions that records get, one after another
+abbrev pub places_from : ℕ → OpenChunk → List (List ℕ) → List ℕ
+places_from size chunk [] = []
+places_from size chunk (r ∷ rs) =
+    let ready : OpenChunk = ready_for size (length r) chunk in
+    next_place ready ∷ places_from size (with_record (length r) ready) rs
+
+-- the positions of records were put behind those before, and whatever records follow get theirs from then on
+pub record PlacesOn (size : ℕ) (old : OpenChunk) (before : List ℕ) (records : List (List ℕ)) (new : OpenChunk) (after : List ℕ) : Type 0 where
+  pub all : (later : List (List ℕ)) → after ++ places_from size new later ≡ before ++ places_from size old (records ++ later)

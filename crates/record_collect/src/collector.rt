@@ -11,10 +11,10 @@ use std::alloc::{AllocError, Global};
 use std::marker::Model;
 
 /// What a record has at most, in bytes.
-const RECORD_SIZE: usize = 1 << 24;
+pub(crate) const RECORD_SIZE: usize = 1 << 24;
 
 /// What the collected records may cost together: for each its length and 8. Own.
-const LIMIT: u64 = 1 << 26;
+pub(crate) const LIMIT: u64 = 1 << 26;
 
 /// Where a record stands among all that are collected. Own.
 #[derive(Clone, Copy, Debug, PartialEq, Eq)]

@@ -1,9 +1,10 @@
 //! Where records stand in the file of them.
-ghost use Rattle.std.specs.Prelude.{◌≡◌, ◌+◌, ◌*◌, ◌^◌, ◌≤◌, IfOk, length};
+ghost use Rattle.std.specs.Prelude.{◌≡◌, ◌+◌, ◌*◌, ◌^◌, ◌≤◌, IfOk, OnOk, length};
 ghost use Rattle.block_layout.specs.Layout.{IsBoundary};
 ghost use Rattle.simple_chunk.specs.Costs.{cost, cost_of};
+ghost use Rattle.record_collect.specs.Batches.{in_turn};
 ghost use Rattle.record_collect.specs.FilePlaces.{places_in_file};
-ghost use Rattle.record_collect.specs.OpenChunks.{IsSound, closes, end_of_open, next_place, opened_at, reach, ready_for, with_record};
+ghost use Rattle.record_collect.specs.OpenChunks.{IsSound, PlacesOn, closes, end_of_open, next_place, opened_at, reach, ready_for, with_record};
 ghost use Rattle.record_collect.specs.Limits.{limit};
 
 use crate::gathered::Numbers;
@@ -16,7 +17,7 @@ const FIRST_CHUNK: u64 = 64;
 
 /// The positions of records in the file that is written of them with this chunk size, from 1 to 2^24, without padding. The
 /// records cost at most 2^26. It takes no memory but that of the positions. Own.
-#[tactic(auto, using(crate::proofs::PlaceSteps::sound_first, crate::proofs::PlaceSteps::items_more, crate::proofs::PlaceSteps::cost_more, crate::proofs::PlaceSteps::places_are))]
+#[tactic(auto, using(crate::proofs::PlaceSteps::sound_first, crate::proofs::PlaceSteps::places_on_file))]
 pub fn places(alloc: Global, records: &Records, size: u64) -> Result<Numbers, AllocError>
     requires some_size { 1 ≤ size }
     requires size { size ≤ 2 ^ 24 }
@@ -25,8 +26,22 @@ pub fn places(alloc: Global, records: &Records, size: u64) -> Result<Numbers, Al
 {
     let mut places = Vec::with_capacity(alloc, records.len())?;
     let mut chunk = OpenChunk::at(FIRST_CHUNK);
-    for i in 0..records.len() {
-        places.push_reserved(chunk.place(records.get(i), size));
+    chunk.place_all(records, size, &mut places)?;
+    Ok(Numbers::of(places))
+}
+
+/// The same of the records of batches, one batch behind another. Own.
+#[tactic(auto, using(crate::proofs::PlaceSteps::sound_first))]
+pub fn places_in_turn(alloc: Global, batches: &[Records], size: u64) -> Result<Numbers, AllocError>
+    requires some_size { 1 ≤ size }
+    requires size { size ≤ 2 ^ 24 }
+    requires most { cost_of (in_turn batches.now) ≤ limit }
+    ensures { IfOk result (λ places. places ≡ places_in_file (in_turn batches.now) size) }
+{
+    let mut places = Vec::new(alloc);
+    let mut chunk = OpenChunk::at(FIRST_CHUNK);
+    for k in 0..batches.len() {
+        chunk.place_all(&batches[k], size, &mut places)?;
     }
     Ok(Numbers::of(places))
 }
@@ -51,6 +66,26 @@ impl OpenChunk {
             sizes: 0,
             values: 0,
         }
+    }
+
+    /// Takes records, and puts their positions behind others.
+    #[tactic(auto, using(crate::proofs::PlaceSteps::items_more, crate::proofs::PlaceSteps::cost_more))]
+    fn place_all(
+        &mut self,
+        records: &Records,
+        size: u64,
+        places: &mut Vec<u64>,
+    ) -> Result<(), AllocError>
+        requires sound { IsSound self.old }
+        requires near { reach self.old + 23 * cost_of records.now ≤ 2 ^ 32 }
+        ensures places { OnOk result (PlacesOn size self.old places.old.items records.now self.new places.new.items) }
+        ensures sound { IsSound self.new }
+        ensures near { OnOk result (reach self.new ≤ reach self.old + 23 * cost_of records.now) }
+    {
+        for i in 0..records.len() {
+            places.push(self.place(records.get(i), size))?;
+        }
+        Ok(())
     }
 
     /// Takes a record, behind the end where the chunk closes before it, and answers its position.

@@ -5,6 +5,7 @@ ghost use Rattle.record_collect.specs.Gatherings.{IsInBounds};
 ghost use Rattle.record_collect.specs.Orders.{cost_of_placed, gathered_of, places_of};
 ghost use Rattle.record_collect.specs.Limits.{limit};
 
+use crate::batches::Batches;
 use crate::placed::{Placed, numbers_of, records_alone};
 use simple_chunk::Records;
 use std::alloc::{AllocError, Global};
@@ -75,6 +76,15 @@ impl Gathered {
     {
         let records = records_alone(alloc, all)?;
         let numbers = numbers_of_each(alloc, all, passes)?;
+        Ok(Gathered { records, numbers })
+    }
+
+    /// The records of batches, and the numbers of each file's.
+    pub(crate) fn of_batches(alloc: Global, all: &Batches) -> Result<Gathered, AllocError>
+        ensures { IfOk result (λ made. made ≡ all.now) }
+    {
+        let records = all.joined(alloc)?;
+        let numbers = all.numbers(alloc)?;
         Ok(Gathered { records, numbers })
     }
 

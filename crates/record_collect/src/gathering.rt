@@ -1,13 +1,13 @@
-//! Files whose records are gathered into one list, by threads.
-ghost use Rattle.std.specs.Prelude.{◌≡◌, All, ◌≤◌, IfOk, Err, length, vec_len};
+//! Files whose records are gathered, by threads.
+ghost use Rattle.std.specs.Prelude.{◌≡◌, ◌≤◌, IfOk, Err, length, vec_len};
 ghost use Rattle.record_io.specs.ManyStores.{AreOnlyAsked, IfAllTell};
 ghost use Rattle.record_collect.specs.declared.gathering.StoppedAt.{StoppedAt};
-ghost use Rattle.record_collect.specs.Ends.{IsGatheredBy, IsGatheredOf, TellsFirst};
-ghost use Rattle.record_collect.specs.Passes.{BelongsTo};
+ghost use Rattle.record_collect.specs.Ends.{IsGatheredBy, IsGatheredOf, IsInOneList, IsJoinedBy, TellsFirst};
 ghost use Rattle.record_collect.specs.Takings.{AreRead, AreSized, IsFirstStopped, both_taken};
 
-use crate::collector::{Collector, Pass};
+use crate::batches::Batches;
 use crate::feeding::Coverage;
+use crate::file_batches::{FileBatches, empty_files, fit_together};
 use crate::gathered::Gathered;
 use crate::slots::feed_into;
 use chunk_reader::{Fault, ReadEnd};
@@ -55,14 +55,11 @@ impl From<StoppedAt> for GatherEnd {
     }
 }
 
-/// Gathers the records of 1 to 16 files into one list, by threads: one reads each store to its end or its fault, strictly, and
-/// puts its records up to the first that is refused. `sizes` are those that the stores told, in their order, each at most 2^60.
-/// Own.
+/// Gathers the records of 1 to 16 files into one list, as `gather_batches` does. Own.
 ///
 /// # Errors
 ///
-/// `Refused` exactly with the fault of the first file that has one. `TooMuch` exactly where no file has a fault, and a record
-/// has more than 2^24 bytes or the records cost more than 2^26 together. `Store` only where a store failed.
+/// Those of `gather_batches`.
 pub fn gather<R: Threads + Sync, S: Store + Send>(
     rt: &R,
     alloc: Global,
@@ -76,35 +73,78 @@ pub fn gather<R: Threads + Sync, S: Store + Send>(
     ensures complete { IfAllTell S.bytes stores.old (TellsFirst result) }
     ensures stores { AreOnlyAsked S.bytes S.told S.name S.faults (result ≡ Err GatherEnd.Store) stores.old stores.new }
 {
+    match gather_batches(rt, alloc, stores, sizes) {
+        Ok(batches) => in_one_list(alloc, &batches),
+        Err(end) => Err(end),
+    }
+}
+
+/// Gathered records in one list.
+fn in_one_list(alloc: Global, batches: &Batches) -> Result<Gathered, GatherEnd>
+    ensures { IsInOneList result batches.now }
+{
+    match Gathered::of_batches(alloc, batches) {
+        Ok(made) => Ok(made),
+        Err(AllocError) => Err(GatherEnd::Memory),
+    }
+}
+
+/// Gathers the records of 1 to 16 files, those of one behind those of another, by threads: one reads each store to its end or
+/// its fault, strictly, and holds its records as they were read, unless they are too much. `sizes` are those that the stores told,
+/// in their order, each at most 2^60. Own.
+///
+/// # Errors
+///
+/// `Refused` exactly with the fault of the first file that has one. `TooMuch` exactly where no file has a fault, and a record
+/// has more than 2^24 bytes or the records cost more than 2^26 together. `Store` only where a store failed.
+pub fn gather_batches<R: Threads + Sync, S: Store + Send>(
+    rt: &R,
+    alloc: Global,
+    stores: &mut [S],
+    sizes: &[u64],
+) -> Result<Batches, GatherEnd>
+    requires many { (1 ≤ length stores.old) × (length stores.old ≤ 16) }
+    requires sized { AreSized S.told stores.old sizes.now }
+    ensures many { IfOk result (λ made. length made.numbers ≡ length stores.old) }
+    ensures gathered { IfAllTell S.bytes stores.old (IsGatheredOf result) }
+    ensures complete { IfAllTell S.bytes stores.old (TellsFirst result) }
+    ensures stores { AreOnlyAsked S.bytes S.told S.name S.faults (result ≡ Err GatherEnd.Store) stores.old stores.new }
+{
     let Ok(mut answers) = unanswered(alloc, stores.len()) else {
         return Err(GatherEnd::Memory);
     };
-    let Ok((collector, mut passes)) = Collector::new(alloc, stores.len() as u32) else {
+    let Ok(mut files) = empty_files(alloc, stores.len()) else {
         return Err(GatherEnd::Memory);
     };
-    feed_into(rt, &collector, sizes, &mut passes, &mut answers, stores);
-    all_gathered(alloc, collector, passes, &answers)
+    feed_into(rt, sizes, &mut files, &mut answers, stores);
+    all_gathered(alloc, files, &answers)
 }
 
-/// What passes gathered, where every file was read to its end and no record was refused.
-#[tactic(auto, using(crate::proofs::AllRead::read_as))]
+/// What was gathered of files, where every one was read to its end and the records are not too much.
+#[tactic(auto, using(crate::proofs::AllRead::read_as, crate::proofs::WholeGatherings::joined_as))]
 fn all_gathered(
     alloc: Global,
-    collector: Collector,
-    passes: Vec<Pass>,
+    files: Vec<FileBatches>,
     answers: &[Result<Coverage, ReadEnd>],
-) -> Result<Gathered, GatherEnd>
-    requires passes { vec_len passes ≡ collector.passes }
-    requires each { All (BelongsTo collector) passes.items }
-    ensures { IsGatheredBy result passes.items answers.now }
+) -> Result<Batches, GatherEnd>
+    ensures { IsGatheredBy result files.items answers.now }
 {
-    let part = all_read(answers)?;
-    let Ok(made) = collector.finish(alloc, passes) else {
-        return Err(GatherEnd::Memory);
-    };
-    match part {
-        Coverage::Whole => Ok(made),
+    match all_read(answers)? {
+        Coverage::Whole => joined(alloc, files),
         Coverage::Front => Err(GatherEnd::TooMuch),
+    }
+}
+
+/// The records of files, where they are not too much together.
+fn joined(alloc: Global, files: Vec<FileBatches>) -> Result<Batches, GatherEnd>
+    ensures { IsJoinedBy result files.items }
+{
+    if !fit_together(&files) {
+        return Err(GatherEnd::TooMuch);
+    }
+    match Batches::of_files(alloc, files) {
+        Ok(made) => Ok(made),
+        Err(AllocError) => Err(GatherEnd::Memory),
     }
 }
 

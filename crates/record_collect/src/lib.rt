@@ -1,8 +1,10 @@
 //! Records that several threads put into one list, each at a place of its own, also those of files. All sizes are in bytes. Own.
 #![tactic(auto)]
 
+mod batches;
 mod collector;
 mod feeding;
+mod file_batches;
 mod file_places;
 mod finishing;
 mod gathered;
@@ -10,8 +12,11 @@ mod gathering;
 pub mod laws;
 mod placed;
 mod slots;
+mod span;
 
+pub use batches::Batches;
 pub use collector::{CollectEnd, Collector, Pass, Receipt};
-pub use file_places::places;
+pub use file_places::{places, places_in_turn};
 pub use gathered::{Gathered, Numbers};
-pub use gathering::{GatherEnd, gather};
+pub use gathering::{GatherEnd, gather, gather_batches};
+pub use span::Span;

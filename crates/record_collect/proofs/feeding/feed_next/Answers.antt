@@ -12,5 +12,5 @@ pub returns-clause-part : goal.returns-clause-part
 returns-clause-part g c =
     λ more.
     let put = c.in_ok-part.ensures.part in
-    taken-more _ c.args.reader.now c.next.new.self c.in-Some.judged put.0 c.args.part.now _ c.args.pass.now c.feed_chunk.new.pass c.requires.strict
+    taken-more _ c.args.reader.now c.next.new.self c.in-Some.judged put.0 c.args.part.now _ c.args.file.now c.feed_chunk.new.file c.requires.strict
     (c.in_ok-judged.ensures.chunk c.in-Some.judged (ap Ok c.in-Some.is)) put.1 put.2

@@ -15,13 +15,13 @@ join_mut-requires-after_bounds g t c κs within =
     let front = c.split_at_mut-front.result.0.now in
     let back = c.split_at_mut-front.result.1.now in
     let cut : c.args.sizes.now ≡ low ++ high = search rules in
-    let halves = can_be_fed-halves g.S.Store.told c.args.collector.now c.args.sizes.now low high c.args.passes.now p q c.args.answers.now x y
+    let halves = can_be_fed-halves g.S.Store.told c.args.sizes.now low high c.args.files.now p q c.args.answers.now x y
     c.args.stores.now front back cut c.split_at_mut-p.ensures.value c.split_at_mut-x.ensures.value c.split_at_mut-front.ensures.value
     (omega (arith, c.split_at.ensures.front_len, c.split_at_mut-front.ensures.front_len))
     (omega (arith, c.split_at_mut-p.ensures.front_len, c.split_at_mut-front.ensures.front_len))
     (omega (arith, c.split_at_mut-x.ensures.front_len, c.split_at_mut-front.ensures.front_len)) c.requires in
-    let front_ready : CanBeFed g.S.Store.told c.args.collector.now low p x front = halves.0 in
-    let back_ready : CanBeFed g.S.Store.told c.args.collector.now high q y back = halves.1 in
+    let front_ready : CanBeFed g.S.Store.told low p x front = halves.0 in
+    let back_ready : CanBeFed g.S.Store.told high q y back = halves.1 in
     grind serving
 
 pub returns : goal.returns

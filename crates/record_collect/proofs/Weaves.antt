@@ -11,16 +11,9 @@ use Rattle.simple_chunk.specs.Costs.{cost, cost_of}
 use Rattle.number_shares.specs.Once.{HasEachBelow, times}
 use Rattle.number_shares.proofs.Counting.{each_below_from_times, once_below, once_below-more, once_below-no, times-append, times-cons}
 use Rattle.number_shares.proofs.Lists.{all_append}
+use Rattle.record_collect.specs.Batches.{in_turn, numbers_from}
 use Rattle.record_collect.specs.Gatherings.{HasTooLong, AreWoven, IsInBounds, StandAt}
 use Rattle.record_collect.specs.Limits.{limit}
-
--- the records of lists, one list behind another, and the numbers of each from one on
-abbrev pub in_turn : List (List (List ℕ)) → List (List ℕ)
-in_turn lists = flat_map (λ list. list) lists
-
-abbrev pub numbers_from : ℕ → List (List (List ℕ)) → List (List ℕ)
-numbers_from at [] = []
-numbers_from at (list ∷ lists) = range_with_len at (length list) ∷ numbers_from (at + length list) lists
 
 -- neighbouring numbers rise
 rise : (at count k : ℕ) → k + 1 < length (range_with_len at count) → get_or (range_with_len at count) k 0 < get_or (range_with_len at count) (k + 1) 0
@@ -107,7 +100,7 @@ short_in_turn : (lists : List (List (List ℕ))) → AllByRecursion (AllByRecurs
 short_in_turn [] all = tt
 short_in_turn (list ∷ lists) all = all_append (λ r. length r ≤ 2 ^ 24) list (in_turn lists) all.0 (short_in_turn lists all.1)
 
-cost-in_turn : (lists : List (List (List ℕ))) → cost_of (in_turn lists) ≡ sum_by cost_of lists
+pub cost-in_turn : (lists : List (List (List ℕ))) → cost_of (in_turn lists) ≡ sum_by cost_of lists
 cost-in_turn [] = refl
 cost-in_turn (list ∷ lists) =
     omega (arith, sum_by-append cost list (in_turn lists), sum_by-cons cost_of list lists, cost-in_turn lists)
@@ -117,7 +110,7 @@ range_below : (at count most : ℕ) → at + count ≤ most → AllByRecursion (
 range_below at zero most within = tt
 range_below at (suc count) most within = (omega (arith, within), range_below (at + 1) count most (omega (arith, within)))
 
-numbers_below : (at most : ℕ) (lists : List (List (List ℕ))) → at + length (in_turn lists) ≤ most
+pub numbers_below : (at most : ℕ) (lists : List (List (List ℕ))) → at + length (in_turn lists) ≤ most
     → AllByRecursion (AllByRecursion (λ n. n < most)) (numbers_from at lists)
 numbers_below at most [] within = tt
 numbers_below at most (list ∷ lists) within =
