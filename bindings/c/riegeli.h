@@ -95,6 +95,23 @@ struct riegeli_piece {
     uint32_t why;       /* of a region, enum riegeli_reason; else 0 */
 };
 
+/* Where padding is wanted: riegeli_options.pad. */
+#define RIEGELI_PAD_NONE 0u
+#define RIEGELI_PAD_START 1u   /* before the chunks of records */
+#define RIEGELI_PAD_END 2u     /* behind them */
+#define RIEGELI_PAD_BOTH 3u
+
+struct riegeli_options {
+    uint64_t chunk;   /* what the records of a chunk of several cost at most: each its bytes and 8 more; 1 to 2^24 */
+    uint64_t every;   /* how many records a chunk has at most, up to 2^24; 0: no number */
+    uint32_t pad;     /* RIEGELI_PAD_.. */
+};
+
+struct riegeli_written {
+    uint64_t end;       /* where what was written ends, and the next call goes on */
+    uint64_t records;   /* how many of the records stand in it */
+};
+
 uint32_t riegeli_version(void);
 
 uint64_t riegeli_hash(const uint8_t *bytes, size_t count);
@@ -119,6 +136,10 @@ uint32_t riegeli_find(const uint8_t *file, size_t size, const uint8_t *key, size
 uint32_t riegeli_repair(const uint8_t *file, size_t size, uint64_t most, struct riegeli_repaired *repaired,
                         uint8_t *room, size_t room_size, uint8_t *lines, size_t lines_size,
                         struct riegeli_region *region);
+
+uint32_t riegeli_write(const uint8_t *values, size_t values_size, const uint64_t *ends, size_t count,
+                       const struct riegeli_options *options, uint64_t at, uint32_t last,
+                       struct riegeli_written *written, uint8_t *room, size_t room_size);
 
 #ifdef __cplusplus
 }

@@ -8,3 +8,10 @@ pub mod RepairSteps
 pub mod RecoverSteps
 pub mod ToldPieces
 pub mod UnkeptPieces
+pub mod HeldGroups
+pub mod LaidBy
+pub mod WrittenChunks
+pub mod RecordCuts
+pub mod ClosedGroups
+mod Values
+pub mod WriteSteps

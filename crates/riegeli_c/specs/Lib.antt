@@ -8,3 +8,6 @@ pub mod Seeks
 pub mod Repairs
 pub mod Recovers
 pub mod Finding
+pub mod Writes
+pub mod Laying
+pub mod LayingGroups

@@ -1,9 +1,14 @@
 //! Laws of the definitions that contracts cite. Nothing runs here.
 
-ghost use Rattle.std.specs.Prelude.{◌≡◌, ℕ, ◌^◌, ◌<◌, ◌≤◌, true, false, List, length, map};
+ghost use Rattle.std.specs.Prelude.{◌≡◌, ℕ, ◌^◌, ◌<◌, ◌≤◌, Bool, true, false, Option, List, ◌++◌, length, map, take, drop};
 ghost use Rattle.damage_skip.specs.FilePieces.{ArePieces, placed_in};
 ghost use Rattle.damage_skip.specs.Pieces.{PieceKind, Piece, AreTiles, events_in, AreEvents, records_in};
 ghost use Rattle.riegeli_c.specs.Recovers.{IsBadBegin, TellsPiece, AreToldFrom, unkept};
+ghost use Rattle.meta_chunk.specs.Files.{end_of_chunks, laid_each};
+ghost use Rattle.record_group.specs.declared.pad.Pad.{Pad};
+ghost use Rattle.record_group.specs.Groups.{chunks_of, file_of, record_chunks};
+ghost use Rattle.riegeli_c.specs.Chunks.{AreGiven};
+ghost use Rattle.riegeli_c.specs.Writes.{AreCuts, chunks_laid, pad_behind, records_in, records_laid};
 
 use crate::recovering::PieceTold;
 
@@ -34,4 +39,45 @@ pub fn unread_chunks_are_passed_over()
         → ArePieces true file pieces → AreEvents false file events → records_in events ≡ records_in pieces }
     ensures placed { (file : List ℕ) (pieces events : List Piece)
         → ArePieces true file pieces → AreEvents false file events → placed_in events ≡ placed_in pieces }
+{}
+
+/// The records that end at places of values, where these are good, are what a chunk's records are given as: their bytes are the
+/// values one behind another, and they end there. No other records are. Own.
+pub fn records_are_cut()
+    ensures given { (values ends : List ℕ) → AreCuts 0 ends (length values) → AreGiven (records_in values ends) values ends }
+    ensures count { (values ends : List ℕ) → length (records_in values ends) ≡ length ends }
+{}
+
+/// What is laid at a file's front where no record follows is the file of the records, and what is laid further on are the chunks
+/// of records from there on. It holds all records. Own.
+pub fn written_at_once()
+    ensures chunks { (records : List (List ℕ)) (size : ℕ) (every : Option ℕ) (pad : Pad)
+        → chunks_laid 0 records size every pad true ≡ chunks_of records size every pad }
+    ensures file { (records : List (List ℕ)) (size : ℕ) (every : Option ℕ) (pad : Pad)
+        → laid_each 0 (chunks_laid 0 records size every pad true) ≡ file_of records size every pad }
+    ensures behind { (place : ℕ) (records : List (List ℕ)) (size : ℕ) (every : Option ℕ) (pad : Pad)
+        → 0 < place → chunks_laid place records size every pad true ≡ record_chunks place records size every pad }
+    ensures all { (records : List (List ℕ)) (size : ℕ) (every : Option ℕ) → records_laid records size every true ≡ records }
+{}
+
+/// What is laid where more records follow, and behind it what is laid of the records that were not, with more behind them and
+/// without the padding before, is what is laid of all of them at once: the same chunks, bytes and records. Own.
+pub fn written_in_pieces()
+    ensures front { (records : List (List ℕ)) (size : ℕ) (every : Option ℕ) (last : Bool)
+        → take (length (records_laid records size every last)) records ≡ records_laid records size every last }
+    ensures chunks { (place : ℕ) (records more : List (List ℕ)) (size : ℕ) (every : Option ℕ) (pad : Pad) (last : Bool)
+        → let first = chunks_laid place records size every pad false in
+        let rest = drop (length (records_laid records size every false)) records ++ more in
+        chunks_laid place (records ++ more) size every pad last
+        ≡ first ++ chunks_laid (end_of_chunks place first) rest size every (pad_behind pad) last }
+    ensures bytes { (place : ℕ) (records more : List (List ℕ)) (size : ℕ) (every : Option ℕ) (pad : Pad) (last : Bool)
+        → let first = chunks_laid place records size every pad false in
+        let rest = drop (length (records_laid records size every false)) records ++ more in
+        let place_then = end_of_chunks place first in
+        laid_each place (chunks_laid place (records ++ more) size every pad last)
+        ≡ laid_each place first ++ laid_each place_then (chunks_laid place_then rest size every (pad_behind pad) last) }
+    ensures records { (records more : List (List ℕ)) (size : ℕ) (every : Option ℕ) (last : Bool)
+        → records_laid (records ++ more) size every last
+        ≡ records_laid records size every false
+        ++ records_laid (drop (length (records_laid records size every false)) records ++ more) size every last }
 {}

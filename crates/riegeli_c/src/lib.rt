@@ -5,12 +5,14 @@
 
 mod faults;
 pub mod laws;
+mod laying;
 mod reading;
 mod recovering;
 mod repairing;
 mod seeking;
 mod splitting;
 mod versions;
+mod writing;
 
 pub use faults::FaultAt;
 pub use reading::{ChunkTold, FileTotals, riegeli_read_chunk, riegeli_verify};
@@ -19,3 +21,4 @@ pub use repairing::{RegionTold, RepairTold, riegeli_repair};
 pub use seeking::{FoundAt, riegeli_find, riegeli_seek};
 pub use splitting::riegeli_split;
 pub use versions::{riegeli_hash, riegeli_version};
+pub use writing::{OptionsTold, WrittenTold, riegeli_write};
