@@ -26,13 +26,13 @@ passed_below file place none =
       | inr past ↦ absurd (none.0 (omega (arith, past, end_of_room place 40)))
     ]
 
-module _ (ks : List ChunkValue) (file : List ℕ) (unread_ok : IsWellFormed ks file) where
+module _ (ks : List ChunkValue) (file : List ℕ) (well_formed : IsWellFormed ks file) where
   pub laid_at : (j : ℕ) (k : ChunkValue) → slice_get ks j ≡ Some k
       → IsLaid (begin_of ks j) k (slice_range file (begin_of ks j) (begin_of ks (j + 1)))
-  laid_at j k at = IsLaid-in_file ks file (length file) j k unread_ok.1.within unread_ok.1.laid at
+  laid_at j k at = IsLaid-in_file ks file (length file) j k well_formed.1.within well_formed.1.laid at
 
   pub last_end : begin_of ks (length ks) ≡ length file
-  last_end = begin_of-place ks file (length file) unread_ok.1.within unread_ok.1.laid
+  last_end = begin_of-place ks file (length file) well_formed.1.within well_formed.1.laid
 
   -- a chunk header tells where its chunk ends, and how many records that has
   pub told_end : (j : ℕ) (k : ChunkValue) → slice_get ks j ≡ Some k → end_at file (begin_of ks j) ≡ begin_of ks (j + 1)

@@ -49,24 +49,24 @@ split-read (Some file) now at begin fault same holder refused =
     absurd (none_is_first (Applies file begin) unpassed_reasons fault.why holder.whole
     (subst (λ (o : Option (List ℕ)). IfSome o (λ f. IsFirstOf (Applies f begin) unpassed_reasons fault.why)) same refused))
 
-module _ (ks : List ChunkValue) (file : List ℕ) (unread_ok : IsWellFormed ks file) where
+module _ (ks : List ChunkValue) (file : List ℕ) (well_formed : IsWellFormed ks file) where
   -- at or behind the file's end no chunk begins
   pub first_at_end : (position : ℕ) → length file ≤ position → IsFirstBegin ks position (length file)
   first_at_end position past = record {
     number = length ks;
     within = omega arith;
-    begin = sym (last_end ks file unread_ok);
+    begin = sym (last_end ks file well_formed);
     past = λ less. absurd (omega (arith, less));
     first = λ i less from.
-        absurd (omega (arith, from, past, last_end ks file unread_ok, begin_of_rises_by ks i less, begin_of_rises ks (i + 1) (length ks) (omega (arith, less))));
+        absurd (omega (arith, from, past, last_end ks file well_formed, begin_of_rises_by ks i less, begin_of_rises ks (i + 1) (length ks) (omega (arith, less))));
   }
 
   -- elsewhere the first one begins where the file is split
   pub first_at_split : (position place : ℕ) → length file ≤ 2 ^ 60 → IsSplit file position place → IsFirstBegin ks position place
   first_at_split position place reach (inl (holder, same)) =
-      let lies = lies_of ks file unread_ok position holder.on_way.below in
+      let lies = lies_of ks file well_formed position holder.on_way.below in
       let h : ℕ = lies.0 in
-      let is : position ≡ begin_of ks h = holder_is ks file unread_ok position position h reach lies.1 holder in
+      let is : position ≡ begin_of ks h = holder_is ks file well_formed position position h reach lies.1 holder in
       record {
         number = h;
         within = omega (arith, lies.1.number);
@@ -79,11 +79,11 @@ module _ (ks : List ChunkValue) (file : List ℕ) (unread_ok : IsWellFormed ks f
             ];
       }
   first_at_split position place reach (inr (held, holder, before, same)) =
-      let lies = lies_of ks file unread_ok position holder.on_way.below in
+      let lies = lies_of ks file well_formed position holder.on_way.below in
       let h : ℕ = lies.0 in
-      let is : held ≡ begin_of ks h = holder_is ks file unread_ok position held h reach lies.1 holder in
-      let chunk = stands_below ks file unread_ok h (omega (arith, is, before, holder.on_way.below)) in
-      let ends : end_at file held ≡ begin_of ks (h + 1) = ap (end_at file) is ∙ told_end ks file unread_ok h chunk.0 chunk.1 in
+      let is : held ≡ begin_of ks h = holder_is ks file well_formed position held h reach lies.1 holder in
+      let chunk = stands_below ks file well_formed h (omega (arith, is, before, holder.on_way.below)) in
+      let ends : end_at file held ≡ begin_of ks (h + 1) = ap (end_at file) is ∙ told_end ks file well_formed h chunk.0 chunk.1 in
       record {
         number = h + 1;
         within = omega (arith, lies.1.number);
@@ -105,8 +105,8 @@ module _ (ks : List ChunkValue) (file : List ℕ) (unread_ok : IsWellFormed ks f
       ] in
       elim (cases_lt position (length file)) [
         | inl inside ↦
-            let lies = lies_of ks file unread_ok position inside in
-            holder_or_fault file position (begin_of ks lies.0) fault (holder_there ks file unread_ok position lies.0 reach lies.1) refused
+            let lies = lies_of ks file well_formed position inside in
+            holder_or_fault file position (begin_of ks lies.0) fault (holder_there ks file well_formed position lies.0 reach lies.1) refused
         | inr past ↦ absurd (below past)
       ]
 

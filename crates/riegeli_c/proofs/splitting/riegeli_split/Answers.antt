@@ -14,9 +14,9 @@ returns-then-place-size-clause-split c = λ _.
     ]
 
 pub returns-then-place-size-clause-whole : goal.returns-then-place-size-clause-whole
-returns-then-place-size-clause-whole c = λ ks unread_ok short.
+returns-then-place-size-clause-whole c = λ ks well_formed short.
     let place = c.in-Ok.place in
-    first_begin ks c.args.file.now unread_ok c.args.at place short
+    first_begin ks c.args.file.now well_formed c.args.at place short
     (shown (λ file. IsSplitOrEnd file (length c.args.file.now) c.args.at place) c.args.file.now _ c.new-store.ensures.bytes (c.in-Ok.ensures.split place (ap Ok c.in-Ok.place-is)))
 
 pub returns-else-place-size-clause-at_end : goal.returns-else-place-size-clause-at_end
@@ -28,9 +28,9 @@ returns-else-place-size-clause-at_end c = λ _.
     ]
 
 pub returns-else-place-size-clause-whole : goal.returns-else-place-size-clause-whole
-returns-else-place-size-clause-whole c = λ ks unread_ok short.
+returns-else-place-size-clause-whole c = λ ks well_formed short.
     let place = c.in-Ok.place in
-    first_begin ks c.args.file.now unread_ok c.args.at place short
+    first_begin ks c.args.file.now well_formed c.args.at place short
     (shown (λ file. IsSplitOrEnd file (length c.args.file.now) c.args.at place) c.args.file.now _ c.new-store.ensures.bytes (c.in-Ok.ensures.split place (ap Ok c.in-Ok.place-is)))
 
 pub returns-in-Err-Refused-clause-refused : goal.returns-in-Err-Refused-clause-refused
@@ -43,7 +43,7 @@ returns-in-Err-Refused-clause-refused c = λ _. (
 )
 
 pub returns-in-Err-Refused-clause-whole : goal.returns-in-Err-Refused-clause-whole
-returns-in-Err-Refused-clause-whole c = λ ks unread_ok short.
-    absurd (never_refused ks c.args.file.now unread_ok c.args.at c.in-Err-Refused.met short
+returns-in-Err-Refused-clause-whole c = λ ks well_formed short.
+    absurd (never_refused ks c.args.file.now well_formed c.args.at c.in-Err-Refused.met short
     (shown (λ file. IsHolderFault file c.args.at c.in-Err-Refused.met) c.args.file.now _ c.new-store.ensures.bytes
     (c.in-Err-Refused.ensures.refused c.in-Err-Refused.met (ap Err c.in-Err-Refused.field-0-is))))
