@@ -8,7 +8,7 @@ use Rattle.std.proofs.lemmas.List.Folds.{drop_split}
 use Rattle.simple_chunk.specs.Records.{records_from}
 use Rattle.simple_chunk.proofs.RecordLists.{length-records_from}
 use Rattle.riegeli_c.specs.Chunks.{ends_from, AreGiven}
-use Rattle.riegeli_c.specs.Writes.{AreCuts, records_in}
+use Rattle.riegeli_c.specs.Writes.{AreCuts, records_cut}
 
 -- how long one is
 pub length-cut : (values : List ℕ) (begin end : ℕ) → end ≤ length values → length (slice_range values begin end) ≡ end - begin
@@ -33,7 +33,7 @@ ends-cut begin (end ∷ ends) values h =
     ap (λ (place : ℕ). place ∷ ends_from place (records_from end ends values)) there
     ∙ ap (λ (places : List ℕ). end ∷ places) (ends-cut end ends values h.3)
 
-pub given-cut : (values ends : List ℕ) → AreCuts 0 ends (length values) → AreGiven (records_in values ends) values ends
+pub given-cut : (values ends : List ℕ) → AreCuts 0 ends (length values) → AreGiven (records_cut values ends) values ends
 given-cut values ends h = record {
   joined = joined-cut 0 ends values h;
   ends_there = ap (λ (n : ℕ). take n ends) (length-records_from 0 ends values) ∙ take_all (length ends) ends (omega arith) ∙ sym (ends-cut 0 ends values h);

@@ -6,7 +6,7 @@ use Rattle.meta_chunk.specs.Files.{end_of_chunks}
 use Rattle.meta_chunk.specs.PaddingSizes.{padding_at}
 use Rattle.record_group.specs.declared.pad.Pad.TheVariants.{No, Start, End, Both}
 use Rattle.record_group.specs.Groups.{groups}
-use Rattle.riegeli_c.specs.Writes.{chunks_laid, every_told, groups_laid, pad_told, records_in, records_laid}
+use Rattle.riegeli_c.specs.Writes.{chunks_laid, every_told, groups_laid, pad_told, records_cut, records_laid}
 
 every_of_numbers : map every_told (0 ∷ 1 ∷ 7 ∷ []) ≡ None ∷ Some 1 ∷ Some 7 ∷ []
 every_of_numbers = refl
@@ -15,7 +15,7 @@ pads_of_numbers : map pad_told (0 ∷ 1 ∷ 2 ∷ 3 ∷ []) ≡ No ∷ Start ∷
 pads_of_numbers = refl
 
 -- the records `a`, `bc` and an empty one, and a value behind them that is of none
-records_of_four : records_in (0x61 ∷ 0x62 ∷ 0x63 ∷ 0x64 ∷ []) (1 ∷ 3 ∷ 3 ∷ []) ≡ (0x61 ∷ []) ∷ (0x62 ∷ 0x63 ∷ []) ∷ [] ∷ []
+records_of_four : records_cut (0x61 ∷ 0x62 ∷ 0x63 ∷ 0x64 ∷ []) (1 ∷ 3 ∷ 3 ∷ []) ≡ (0x61 ∷ []) ∷ (0x62 ∷ 0x63 ∷ []) ∷ [] ∷ []
 records_of_four = refl
 
 -- the records `a`, `b` and `c`

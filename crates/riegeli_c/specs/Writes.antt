@@ -22,8 +22,8 @@ abbrev pub pad_told : ℕ → Pad
 pad_told number = if number == 1 then Start else (if number == 2 then End else (if number == 3 then Both else No))
 
 -- the records that lie one behind another among values, and end at these places of them
-abbrev pub records_in : (values ends : List ℕ) → List (List ℕ)
-records_in values ends = records_from 0 ends values
+abbrev pub records_cut : (values ends : List ℕ) → List (List ℕ)
+records_cut values ends = records_from 0 ends values
 
 -- of records that begin at a place of values none ends before it begins or behind the last of so many values, or has more than
 -- 2 ^ 24 bytes

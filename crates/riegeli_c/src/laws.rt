@@ -8,7 +8,7 @@ ghost use Rattle.meta_chunk.specs.Files.{end_of_chunks, laid_each};
 ghost use Rattle.record_group.specs.declared.pad.Pad.{Pad};
 ghost use Rattle.record_group.specs.Groups.{chunks_of, file_of, record_chunks};
 ghost use Rattle.riegeli_c.specs.Chunks.{AreGiven};
-ghost use Rattle.riegeli_c.specs.Writes.{AreCuts, chunks_laid, pad_behind, records_in, records_laid};
+ghost use Rattle.riegeli_c.specs.Writes.{AreCuts, chunks_laid, pad_behind, records_cut, records_laid};
 
 use crate::recovering::PieceTold;
 
@@ -44,8 +44,8 @@ pub fn unread_chunks_are_passed_over()
 /// The records that end at places of values, where these are good, are what a chunk's records are given as: their bytes are the
 /// values one behind another, and they end there. No other records are. Own.
 pub fn records_are_cut()
-    ensures given { (values ends : List ℕ) → AreCuts 0 ends (length values) → AreGiven (records_in values ends) values ends }
-    ensures count { (values ends : List ℕ) → length (records_in values ends) ≡ length ends }
+    ensures given { (values ends : List ℕ) → AreCuts 0 ends (length values) → AreGiven (records_cut values ends) values ends }
+    ensures count { (values ends : List ℕ) → length (records_cut values ends) ≡ length ends }
 {}
 
 /// What is laid at a file's front where no record follows is the file of the records, and what is laid further on are the chunks

@@ -11,7 +11,7 @@ ghost use Rattle.record_io.specs.Calls.{OnlyCounts};
 ghost use Rattle.record_writer.specs.MadeFiles.{chunks_of_groups, reach_of};
 ghost use Rattle.riegeli_c.specs.Laying.{LaysBy};
 ghost use Rattle.riegeli_c.specs.LayingGroups.{LaysPushed};
-ghost use Rattle.riegeli_c.specs.Writes.{AreCuts, groups_laid, records_in, records_laid, signature_at};
+ghost use Rattle.riegeli_c.specs.Writes.{AreCuts, groups_laid, records_cut, records_laid, signature_at};
 
 use ordered_writer::OrderedWriter;
 use record_group::Grouper;
@@ -105,8 +105,8 @@ pub(crate) fn lay_groups<M: Sink>(
     requires going { writer.old.spent ≡ false }
     requires in_reach { reach_of writer.old.position grouper (length values.now + length ends.now) ≤ 2 ^ 61 }
     ensures laid { LaysBy M.taken M.lent M.faults (result ≡ Err LayEnd.Made) result writer.old writer.new
-        (chunks_of_groups (groups_laid last (groups (records_in values.now ends.now) grouper.size grouper.every))) made.old made.new }
-    ensures held { IfOk result (λ held. held + length (records_laid (records_in values.now ends.now) grouper.size grouper.every last)
+        (chunks_of_groups (groups_laid last (groups (records_cut values.now ends.now) grouper.size grouper.every))) made.old made.new }
+    ensures held { IfOk result (λ held. held + length (records_laid (records_cut values.now ends.now) grouper.size grouper.every last)
         ≡ length ends.now) }
     ensures in_reach { OnOk result (writer.new.position ≤ 2 ^ 61) }
 {
@@ -135,9 +135,9 @@ fn lay_closed<M: Sink>(
     requires going { writer.old.spent ≡ false }
     requires in_reach { reach_of writer.old.position grouper.old (length values.now + length ends.now) ≤ 2 ^ 61 }
     ensures laid { LaysBy M.taken M.lent M.faults (result ≡ Err LayEnd.Made) result writer.old writer.new
-        (chunks_of_groups (groups_laid false (groups_from grouper.old (records_in values.now ends.now)))) made.old made.new }
-    ensures behind { OnOk result (groups_from grouper.old (records_in values.now ends.now)
-        ≡ groups_laid false (groups_from grouper.old (records_in values.now ends.now)) ++ groups_from grouper.new []) }
+        (chunks_of_groups (groups_laid false (groups_from grouper.old (records_cut values.now ends.now)))) made.old made.new }
+    ensures behind { OnOk result (groups_from grouper.old (records_cut values.now ends.now)
+        ≡ groups_laid false (groups_from grouper.old (records_cut values.now ends.now)) ++ groups_from grouper.new []) }
     ensures in_reach { OnOk result (reach_of writer.new.position grouper.new 0 ≤ 2 ^ 61) }
 {
     let mut begin: usize = 0;

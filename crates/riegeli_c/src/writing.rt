@@ -3,7 +3,7 @@ ghost use Rattle.record_io.specs.Calls.{OnlyCounts};
 ghost use Rattle.record_io.specs.Outside.{Takes, TakesShort};
 ghost use Rattle.meta_chunk.specs.Files.{laid_each};
 ghost use Rattle.record_group.specs.Groups.{pads_start, pads_end};
-ghost use Rattle.riegeli_c.specs.Writes.{AreCuts, AreGoodOptions, IsGoodPlace, MayWrite, TellsWritten, chunks_told, every_told, pad_told, records_in};
+ghost use Rattle.riegeli_c.specs.Writes.{AreCuts, AreGoodOptions, IsGoodPlace, MayWrite, TellsWritten, chunks_told, every_told, pad_told, records_cut};
 
 use crate::laying::{LayEnd, lay_first, lay_groups, pad_if};
 use block_layout::is_boundary;
@@ -69,8 +69,8 @@ pub extern "C" fn riegeli_write(
 ) -> u32
     ensures answers { (result ≡ 0) ⊎ (result ≡ 2) ⊎ (result ≡ 3) ⊎ (result ≡ 4) }
     ensures bad { (result ≡ 2) ↔ (¬ MayWrite values.now ends.now options.now at last) }
-    ensures laid { result ≡ 0 → take (written.new.end - at) room.new ≡ laid_each at (chunks_told at (records_in values.now ends.now) options.now last) }
-    ensures told { (result ≡ 0) ⊎ (result ≡ 4) → TellsWritten at (records_in values.now ends.now) options.now last written.new }
+    ensures laid { result ≡ 0 → take (written.new.end - at) room.new ≡ laid_each at (chunks_told at (records_cut values.now ends.now) options.now last) }
+    ensures told { (result ≡ 0) ⊎ (result ≡ 4) → TellsWritten at (records_cut values.now ends.now) options.now last written.new }
     ensures fits { result ≡ 0 → written.new.end ≤ at + length room.old }
     ensures room { result ≡ 4 → at + length room.old < written.new.end }
 {
@@ -148,10 +148,10 @@ fn write_into(
     room: &mut [u8],
 ) -> Result<WrittenTold, LayEnd>
     requires { MayWrite values.now ends.now options.now at last }
-    ensures laid { IfOk result (λ told. take (told.end - at) room.new ≡ laid_each at (chunks_told at (records_in values.now ends.now) options.now last)) }
-    ensures told { IfOk result (TellsWritten at (records_in values.now ends.now) options.now last) }
+    ensures laid { IfOk result (λ told. take (told.end - at) room.new ≡ laid_each at (chunks_told at (records_cut values.now ends.now) options.now last)) }
+    ensures told { IfOk result (TellsWritten at (records_cut values.now ends.now) options.now last) }
     ensures fits { IfOk result (λ told. told.end ≤ at + length room.old) }
-    ensures room { result ≡ Err LayEnd.Made → length room.old < length (laid_each at (chunks_told at (records_in values.now ends.now) options.now last)) }
+    ensures room { result ≡ Err LayEnd.Made → length room.old < length (laid_each at (chunks_told at (records_cut values.now ends.now) options.now last)) }
 {
     let mut made = SliceSink::new(room);
     let ended = write(alloc, values, ends, options, at, last, &mut made);
@@ -170,10 +170,10 @@ fn write<M: Sink>(
     made: &mut M,
 ) -> Result<WrittenTold, LayEnd>
     requires { MayWrite values.now ends.now options.now at last }
-    ensures laid { OnOk result (Takes (M.taken made.old) (M.taken made.new) (laid_each at (chunks_told at (records_in values.now ends.now) options.now last))) }
-    ensures told { IfOk result (TellsWritten at (records_in values.now ends.now) options.now last) }
+    ensures laid { OnOk result (Takes (M.taken made.old) (M.taken made.new) (laid_each at (chunks_told at (records_cut values.now ends.now) options.now last))) }
+    ensures told { IfOk result (TellsWritten at (records_cut values.now ends.now) options.now last) }
     ensures short { result ≡ Err LayEnd.Made
-        → TakesShort (M.taken made.old) (M.taken made.new) (laid_each at (chunks_told at (records_in values.now ends.now) options.now last)) }
+        → TakesShort (M.taken made.old) (M.taken made.new) (laid_each at (chunks_told at (records_cut values.now ends.now) options.now last)) }
     ensures made { OnlyCounts M.lent M.faults (result ≡ Err LayEnd.Made) made.old made.new }
 {
     let pad = pad_told(options.pad);

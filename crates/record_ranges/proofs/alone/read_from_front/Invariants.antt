@@ -10,7 +10,7 @@ invariant-loop-part g l = record {
   strict : l.reader.unread_ok ≡ false;
   within : l.reader.totals.bytes ≤ l.reader.size;
   reads : ReadsIn (g.S.Store.bytes l.store) (g.S.Store.told l.store) l.reader;
-  read : IfSome (g.S.Store.bytes l.fn.store) (λ file. IsReadSoFar g.K.Keeper.unread_ok file l.span l.reader.totals l.part.kept);
+  read : IfSome (g.S.Store.bytes l.fn.store) (λ file. IsReadSoFar g.K.Keeper.kept_as file l.span l.reader.totals l.part.kept);
   asks : OnlyAsks g.S.Store.bytes g.S.Store.told g.S.Store.name g.S.Store.faults ⊥ l.fn.store l.store;
 }
 

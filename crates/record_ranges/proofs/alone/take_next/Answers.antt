@@ -14,5 +14,5 @@ pub returns-clause-read : goal.returns-clause-read
 returns-clause-read g c =
     λ more.
     let taken = c.in_ok-take.ensures.taken in
-    so_far-more g.K.Keeper.unread_ok _ c.args.span c.args.reader.now c.next.new.self c.in-Some.judged taken.held c.args.part.now.kept c.take.new.self.kept c.requires.strict
+    so_far-more g.K.Keeper.kept_as _ c.args.span c.args.reader.now c.next.new.self c.in-Some.judged taken.held c.args.part.now.kept c.take.new.self.kept c.requires.strict
     (c.in_ok-judged.ensures.chunk c.in-Some.judged (ap Ok c.in-Some.is)) taken.holds taken.adds

@@ -26,7 +26,7 @@ read_into-requires-clause-within g c κs within =
 
 pub judged_parts-requires-clause-sized : goal.judged_parts-requires-clause-sized
 judged_parts-requires-clause-sized g c = record {
-  is_told = first-told g.K.Keeper.unread_ok g.S.Store.bytes g.S.Store.told g.S.Store.name g.S.Store.faults c.args.size c.deref.result.now c.args.stores.now c.read_into.new.stores
+  is_told = first-told g.K.Keeper.kept_as g.S.Store.bytes g.S.Store.told g.S.Store.name g.S.Store.faults c.args.size c.deref.result.now c.args.stores.now c.read_into.new.stores
       c.read_into.new.answers.items c.index-stores-0.result c.read_into.ensures c.requires.sized.0 (omega (arith, c.requires.many.0));
   in_reach = omega (arith, c.requires.sized.1);
 }
@@ -35,15 +35,15 @@ judged_parts-requires-clause-sized g c = record {
 tells : (g : _) (c : After-judged_parts g) (file : List ℕ) → AllByRecursion (λ s. g.S.Store.bytes s ≡ Some file) c.args.stores.now
     → g.S.Store.bytes (slice_index_or c.read_into.new.stores 0 c.index-stores-0.result) ≡ Some file
 tells g c file same =
-    first-bytes g.K.Keeper.unread_ok g.S.Store.bytes g.S.Store.told g.S.Store.name g.S.Store.faults file c.deref.result.now c.args.stores.now c.read_into.new.stores
+    first-bytes g.K.Keeper.kept_as g.S.Store.bytes g.S.Store.told g.S.Store.name g.S.Store.faults file c.deref.result.now c.args.stores.now c.read_into.new.stores
     c.read_into.new.answers.items c.index-stores-0.result c.read_into.ensures same (omega (arith, c.requires.many.0))
 
 pub returns-clause-ranges : goal.returns-clause-ranges
 returns-clause-ranges g c =
     let spans = c.deref-2.ensures.value ∙ sym c.deref.ensures.value in
-    ranges-answered g.K.Keeper.unread_ok g.S.Store.bytes c.args.stores.now c.args.cuts.now c.args.size c.deref-2.result.now c.read_into.new.answers.items
+    ranges-answered g.K.Keeper.kept_as g.S.Store.bytes c.args.stores.now c.args.cuts.now c.args.size c.deref-2.result.now c.read_into.new.answers.items
     _ c.judged_parts.result (c.deref-2.ensures.value ∙ c.in-Ok.ensures) (tells g (goal.at.returns-clause-ranges g c).After-judged_parts)
-    (λ file same. rw spans (all_in g.K.Keeper.unread_ok g.S.Store.bytes g.S.Store.told g.S.Store.name g.S.Store.faults file c.deref.result.now c.args.stores.now
+    (λ file same. rw spans (all_in g.K.Keeper.kept_as g.S.Store.bytes g.S.Store.told g.S.Store.name g.S.Store.faults file c.deref.result.now c.args.stores.now
     c.read_into.new.stores c.read_into.new.answers.items same c.read_into.ensures))
     c.judged_parts.ensures.parts
 
@@ -54,6 +54,6 @@ returns-clause-refused g c = λ fault is file same.
 
 pub returns-clause-stores : goal.returns-clause-stores
 returns-clause-stores g c =
-    asked_again g.K.Keeper.unread_ok g.S.Store.bytes g.S.Store.told g.S.Store.name g.S.Store.faults c.deref.result.now c.args.stores.now c.read_into.new.stores
+    asked_again g.K.Keeper.kept_as g.S.Store.bytes g.S.Store.told g.S.Store.name g.S.Store.faults c.deref.result.now c.args.stores.now c.read_into.new.stores
     c.read_into.new.answers.items c.index-stores-0.result c.judged_parts.new.store (omega (arith, c.requires.many.0)) c.read_into.ensures
     c.judged_parts.ensures.store c.judged_parts.ensures.cause

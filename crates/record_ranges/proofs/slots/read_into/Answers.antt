@@ -7,5 +7,5 @@ pub returns : goal.returns
 returns g c =
     let new = c.read_slots.new.answers in
     let count : length new ≡ c.args.answers.now.len = search rules in
-    subst (AreAnswered g.K.Keeper.unread_ok g.S.Store.bytes g.S.Store.told g.S.Store.name g.S.Store.faults c.args.spans.now c.args.stores.now c.read_slots.new.stores)
+    subst (AreAnswered g.K.Keeper.kept_as g.S.Store.bytes g.S.Store.told g.S.Store.name g.S.Store.faults c.args.spans.now c.args.stores.now c.read_slots.new.stores)
     (sym (written c.args.answers.now.len new (drop (length new) c.args.answers.now.items) count)) c.read_slots.ensures

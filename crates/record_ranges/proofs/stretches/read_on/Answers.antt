@@ -7,7 +7,7 @@ pub returns : goal.returns
 returns g c =
     let kept = c.loop-stretch.invariant in
     record {
-      stretch = stretch-whole g.K.Keeper.unread_ok _ c.args.size c.args.begin c.args.span c.loop-stretch.stretch
+      stretch = stretch-whole g.K.Keeper.kept_as _ c.args.size c.args.begin c.args.span c.loop-stretch.stretch
           (subst (IsSized (g.S.Store.bytes c.args.store.now)) c.requires.sized.is_told (g.met.S.Store.sized c.args.store.now))
           c.requires.from.1 kept.same_begin (omega (arith, c.loop-stretch-test.false)) kept.inside kept.judged;
       asks = search rules;

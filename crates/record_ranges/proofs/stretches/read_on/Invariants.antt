@@ -9,7 +9,7 @@ invariant-loop-stretch g l = record {
   boundary : IsBoundary l.stretch.end;
   inside : l.stretch.end ≤ l.size;
   same_begin : l.stretch.begin ≡ l.begin;
-  judged : IfSome (g.S.Store.bytes l.fn.store) (λ file. IsJudgedStretch g.K.Keeper.unread_ok file l.span l.stretch);
+  judged : IfSome (g.S.Store.bytes l.fn.store) (λ file. IsJudgedStretch g.K.Keeper.kept_as file l.span l.stretch);
   asks : OnlyAsks g.S.Store.bytes g.S.Store.told g.S.Store.name g.S.Store.faults ⊥ l.fn.store l.store;
 }
 

@@ -9,7 +9,7 @@ read_on-requires-clause-from g c =
 
 pub returns-in-None : goal.returns-in-None
 returns-in-None g c = record {
-  stretch = stretch-at_end g.K.Keeper.unread_ok _ c.args.size c.args.span c.at.result
+  stretch = stretch-at_end g.K.Keeper.kept_as _ c.args.size c.args.span c.at.result
       (subst (IsSized (g.S.Store.bytes c.args.store.now)) c.requires.sized.is_told (g.met.S.Store.sized c.args.store.now))
       c.requires.within (c.in_ok-begin.ensures.none.0 (ap Ok c.in-None.is)) c.at.ensures;
   asks = search rules;

@@ -3,7 +3,7 @@ use Rattle.std.specs.Prelude.{slice_range}
 use Rattle.std.proofs.lemmas.Result.{err_from_is_err_and}
 use Rattle.simple_chunk.specs.Records.{records_from}
 use Rattle.record_group.specs.Groupings.{groups_from}
-use Rattle.riegeli_c.specs.Writes.{AreCuts, records_in}
+use Rattle.riegeli_c.specs.Writes.{AreCuts, records_cut}
 use Rattle.riegeli_c.specs.declared.laying.LayEnd.TheVariants.{Made}
 use Rattle.riegeli_c.proofs.ClosedGroups.{AreClosed, closed-push, closed-short, reach-push}
 use Rattle.riegeli_c.proofs.LaidBy.{none-laid, counts-same, counts-then, counts-where, lays-err, unspent}
@@ -29,7 +29,7 @@ pub returns-in_err-lay_before-clause-laid : goal.returns-in_err-lay_before-claus
 returns-in_err-lay_before-clause-laid g c =
     let p = err_from_is_err_and c.from_residual.result c.from_residual.ensures.1 in
     let values = c.args.values.now in
-    let all = groups_from c.args.grouper.now (records_in values c.args.ends.now) in
+    let all = groups_from c.args.grouper.now (records_cut values c.args.ends.now) in
     let closed = subst
     (λ (rest : List ℕ). AreClosed (g.M.Sink.taken c.args.made.now) (g.M.Sink.taken c.loop-end.made) c.args.writer.now c.loop-end.writer all c.loop-end.grouper
     (records_from c.loop-end.begin rest values))
@@ -50,7 +50,7 @@ loop-end-preserved g c =
     let end = c.in-Some.end.now in
     let behind = c.in-Some.behind.now in
     let one = slice_range values begin end in
-    let all = groups_from c.args.grouper.now (records_in values c.args.ends.now) in
+    let all = groups_from c.args.grouper.now (records_cut values c.args.ends.now) in
     let closed = subst
     (λ (rest : List ℕ). AreClosed (g.M.Sink.taken c.args.made.now) (g.M.Sink.taken c.loop-end.made) c.args.writer.now c.loop-end.writer all c.loop-end.grouper
     (records_from begin rest values))

@@ -12,7 +12,7 @@ use Rattle.record_group.specs.Groupings.{groups_from}
 use Rattle.record_writer.specs.MadeFiles.{chunks_of_groups}
 use Rattle.record_writer.proofs.Reaches.{reach_of-last}
 use Rattle.riegeli_c.specs.Laying.{AreLaidBy}
-use Rattle.riegeli_c.specs.Writes.{groups_laid, records_in, records_laid}
+use Rattle.riegeli_c.specs.Writes.{groups_laid, records_cut, records_laid}
 use Rattle.riegeli_c.specs.declared.laying.LayEnd.TheVariants.{Made}
 use Rattle.riegeli_c.proofs.ClosedGroups.{chunks-push, count-none, count-held, laid-parts, new-groups, none-held}
 use Rattle.riegeli_c.proofs.HeldGroups.{laid-all}
@@ -21,7 +21,7 @@ use Rattle.riegeli_c.proofs.laying.lay_groups.Goals as goal
 
 pub returns-in_err-lay_closed-clause-laid : goal.returns-in_err-lay_closed-clause-laid
 returns-in_err-lay_closed-clause-laid g c =
-    let rs = records_in c.args.values.now c.args.ends.now in
+    let rs = records_cut c.args.values.now c.args.ends.now in
     let gs = groups rs c.args.grouper.size c.args.grouper.every in
     let same = new-groups c.args.grouper rs c.requires.new in
     let p = err_from_is_err_and c.from_residual.result c.from_residual.ensures.1 in
@@ -40,7 +40,7 @@ returns-in_err-lay_closed-clause-laid g c =
 
 pub returns-in_default-clause-laid : goal.returns-in_default-clause-laid
 returns-in_default-clause-laid g c =
-    let rs = records_in c.args.values.now c.args.ends.now in
+    let rs = records_cut c.args.values.now c.args.ends.now in
     let gs = groups rs c.args.grouper.size c.args.grouper.every in
     let same = new-groups c.args.grouper rs c.requires.new in
     let laid = subst
@@ -57,7 +57,7 @@ returns-in_default-clause-laid g c =
 
 pub returns-in_default-clause-held : goal.returns-in_default-clause-held
 returns-in_default-clause-held g c =
-    let rs = records_in c.args.values.now c.args.ends.now in
+    let rs = records_cut c.args.values.now c.args.ends.now in
     let gs = groups rs c.args.grouper.size c.args.grouper.every in
     let same = new-groups c.args.grouper rs c.requires.new in
     let finished : groups_from c.lay_closed.new.grouper [] ≡ [] = rw c.in_default.is at c.finish.ensures.rest in
@@ -67,7 +67,7 @@ returns-in_default-clause-held g c =
 
 pub returns-then-not-last-clause-laid : goal.returns-then-not-last-clause-laid
 returns-then-not-last-clause-laid g c =
-    let rs = records_in c.args.values.now c.args.ends.now in
+    let rs = records_cut c.args.values.now c.args.ends.now in
     let gs = groups rs c.args.grouper.size c.args.grouper.every in
     let same = new-groups c.args.grouper rs c.requires.new in
     let laid = subst
@@ -81,7 +81,7 @@ returns-then-not-last-clause-laid g c =
 
 pub returns-then-not-last-clause-held : goal.returns-then-not-last-clause-held
 returns-then-not-last-clause-held g c =
-    let rs = records_in c.args.values.now c.args.ends.now in
+    let rs = records_cut c.args.values.now c.args.ends.now in
     let gs = groups rs c.args.grouper.size c.args.grouper.every in
     let same = new-groups c.args.grouper rs c.requires.new in
     let finished : groups_from c.lay_closed.new.grouper [] ≡ c.in-Some.group ∷ [] = rw c.in-Some.is at c.finish.ensures.rest in
@@ -110,7 +110,7 @@ lay_group-requires-clause-may_reach g c =
 
 pub returns-in_err-lay_group-clause-laid : goal.returns-in_err-lay_group-clause-laid
 returns-in_err-lay_group-clause-laid g c =
-    let rs = records_in c.args.values.now c.args.ends.now in
+    let rs = records_cut c.args.values.now c.args.ends.now in
     let gs = groups rs c.args.grouper.size c.args.grouper.every in
     let same = new-groups c.args.grouper rs c.requires.new in
     let laid = subst
@@ -134,7 +134,7 @@ returns-in_err-lay_group-clause-laid g c =
 
 pub returns-clause-laid : goal.returns-clause-laid
 returns-clause-laid g c =
-    let rs = records_in c.args.values.now c.args.ends.now in
+    let rs = records_cut c.args.values.now c.args.ends.now in
     let gs = groups rs c.args.grouper.size c.args.grouper.every in
     let same = new-groups c.args.grouper rs c.requires.new in
     let laid = subst
@@ -154,7 +154,7 @@ returns-clause-laid g c =
 
 pub returns-clause-held : goal.returns-clause-held
 returns-clause-held g c =
-    let rs = records_in c.args.values.now c.args.ends.now in
+    let rs = records_cut c.args.values.now c.args.ends.now in
     let all : c.args.last ≡ true = search rules in
     subst (λ (last : Bool). 0 + length (records_laid rs c.args.grouper.size c.args.grouper.every last) ≡ length c.args.ends.now) (sym all)
     (omega (arith, ap length (laid-all rs c.args.grouper.size c.args.grouper.every), length-records_from 0 c.args.ends.now c.args.values.now))

@@ -8,7 +8,7 @@ use Rattle.ordered_writer.specs.Writers.{Writer}
 use Rattle.record_group.specs.declared.pad.Pad.{Pad}
 use Rattle.record_group.specs.Groups.{padding_if, pads_start, pads_end}
 use Rattle.record_group.specs.Groupings.{Grouping}
-use Rattle.riegeli_c.specs.Writes.{every_told, pad_told, records_in, records_laid, signature_at}
+use Rattle.riegeli_c.specs.Writes.{every_told, pad_told, records_cut, records_laid, signature_at}
 use Rattle.riegeli_c.specs.declared.laying.LayEnd.TheVariants.{Made}
 use Rattle.riegeli_c.proofs.LaidBy.{position}
 use Rattle.riegeli_c.proofs.WrittenChunks.{first-near}
@@ -17,7 +17,7 @@ use Rattle.riegeli_c.proofs.writing.write.Goals as goal
 
 pub returns-in_err-lay_first-clause-short : goal.returns-in_err-lay_first-clause-short
 returns-in_err-lay_first-clause-short g c = λ _.
-    let rs = records_in c.args.values.now c.args.ends.now in
+    let rs = records_cut c.args.values.now c.args.ends.now in
     let o = c.args.options.now in
     let u = c.resume-writer.result in
     let there : u.position ≡ c.args.at = ap (λ (w : Writer). w.position) c.resume-writer.ensures in
@@ -41,7 +41,7 @@ lay_groups-requires-clause-in_reach g c =
 
 pub returns-in_err-held-clause-short : goal.returns-in_err-held-clause-short
 returns-in_err-held-clause-short g c = λ is.
-    let rs = records_in c.args.values.now c.args.ends.now in
+    let rs = records_cut c.args.values.now c.args.ends.now in
     let o = c.args.options.now in
     let u = c.resume-writer.result in
     let there : u.position ≡ c.args.at = ap (λ (w : Writer). w.position) c.resume-writer.ensures in
@@ -54,7 +54,7 @@ returns-in_err-held-clause-short g c = λ is.
 
 pub returns-in_err-pad_if-clause-short : goal.returns-in_err-pad_if-clause-short
 returns-in_err-pad_if-clause-short g c = λ _.
-    let rs = records_in c.args.values.now c.args.ends.now in
+    let rs = records_cut c.args.values.now c.args.ends.now in
     let o = c.args.options.now in
     let u = c.resume-writer.result in
     let there : u.position ≡ c.args.at = ap (λ (w : Writer). w.position) c.resume-writer.ensures in
@@ -66,7 +66,7 @@ returns-in_err-pad_if-clause-short g c = λ _.
 
 pub returns-clause-laid : goal.returns-clause-laid
 returns-clause-laid g c =
-    let rs = records_in c.args.values.now c.args.ends.now in
+    let rs = records_cut c.args.values.now c.args.ends.now in
     let o = c.args.options.now in
     let u = c.resume-writer.result in
     let there : u.position ≡ c.args.at = ap (λ (w : Writer). w.position) c.resume-writer.ensures in
@@ -78,7 +78,7 @@ returns-clause-laid g c =
 
 pub returns-clause-told : goal.returns-clause-told
 returns-clause-told g c =
-    let rs = records_in c.args.values.now c.args.ends.now in
+    let rs = records_cut c.args.values.now c.args.ends.now in
     let o = c.args.options.now in
     let u = c.resume-writer.result in
     let there : u.position ≡ c.args.at = ap (λ (w : Writer). w.position) c.resume-writer.ensures in

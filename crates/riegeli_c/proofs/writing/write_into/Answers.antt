@@ -2,14 +2,14 @@ use Rattle.std.proofs.Common.{◌≡◌, ℕ, ◌+◌, ◌-◌, ◌≤◌, List,
 use Rattle.std.specs.Result.{IfOk}
 use Rattle.std.proofs.lemmas.Result.{IfOk-weaker}
 use Rattle.meta_chunk.specs.Files.{laid_each}
-use Rattle.riegeli_c.specs.Writes.{chunks_told, records_in}
+use Rattle.riegeli_c.specs.Writes.{chunks_told, records_cut}
 use Rattle.riegeli_c.specs.declared.writing.WrittenTold.{WrittenTold}
 use Rattle.riegeli_c.proofs.WriteSteps.{in-room}
 use Rattle.riegeli_c.proofs.writing.write_into.Goals as goal
 
 pub returns-clause-laid : goal.returns-clause-laid
 returns-clause-laid c =
-    let rs = records_in c.args.values.now c.args.ends.now in
+    let rs = records_cut c.args.values.now c.args.ends.now in
     let made = c.write-ended.new.made in
     let laid = in-room c.write-ended.result c.args.at rs c.args.options.now c.args.last _ _ c.used-used.result made.room.now c.new-made.ensures.taken c.used-used.ensures.taken
     c.write-ended.ensures.laid c.write-ended.ensures.told in
@@ -20,7 +20,7 @@ returns-clause-laid c =
 
 pub returns-clause-fits : goal.returns-clause-fits
 returns-clause-fits c =
-    let rs = records_in c.args.values.now c.args.ends.now in
+    let rs = records_cut c.args.values.now c.args.ends.now in
     let made = c.write-ended.new.made in
     let laid = in-room c.write-ended.result c.args.at rs c.args.options.now c.args.last _ _ c.used-used.result made.room.now c.new-made.ensures.taken c.used-used.ensures.taken
     c.write-ended.ensures.laid c.write-ended.ensures.told in
