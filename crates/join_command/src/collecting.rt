@@ -13,7 +13,7 @@ ghost use Rattle.join_command.specs.CollectingEnds.{AreEachInReach, IsOneTooLong
 use crate::stops::{Uncollected, end_collecting};
 use crate::writing::put_gathered;
 use command_frame::{Cut, Ending, MOST_FILE_BYTES, Status, ask_sizes, is_one_past};
-use record_collect::{GatherEnd, gather};
+use record_collect::{GatherEnd, gather_batches};
 use record_io::{Sink, Store};
 use std::alloc::Global;
 use std::thread::Threads;
@@ -87,7 +87,7 @@ fn collect_sized<R: Threads + Sync, S: Store + Send, M: Sink + Send, O: Sink>(
     ensures made { OnlyCounts M.lent M.faults (result ≡ Err (Ending.Cut Cut.Made)) made.old made.new }
     ensures out { OnlyCounts O.lent O.faults (result ≡ Err (Ending.Cut Cut.Out)) out.old out.new }
 {
-    let put = match gather(rt, alloc, files, sizes) {
+    let put = match gather_batches(rt, alloc, files, sizes) {
         Ok(gathered) => put_gathered(rt, alloc, &gathered, files.len(), made, out),
         Err(end) => return Err(end_of_gather(end)),
     };

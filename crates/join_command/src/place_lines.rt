@@ -1,16 +1,17 @@
 ghost use Rattle.std.specs.Prelude.{◌≡◌, ◌<◌, length};
 ghost use Rattle.std.specs.List.{AllByRecursion};
 ghost use Rattle.record_io.specs.Calls.{PutsThrough, PutsTo};
+ghost use Rattle.record_collect.specs.Batches.{numbers_in_span};
 ghost use Rattle.join_command.specs.CollectCommand.{file_lines, files_lines, place_line};
 
 use itoa::Buffer;
-use record_collect::{Gathered, Numbers};
+use record_collect::{Batches, Numbers, Span};
 use record_io::{Failed, PutBuffer, Sink};
 use show_command::LINES;
 
 /// Puts a line for each of the gathered records of so many files, which stand at these positions.
 pub(crate) fn put_places<O: Sink>(
-    gathered: &Gathered,
+    gathered: &Batches,
     places: &Numbers,
     files: usize,
     out: &mut O,
@@ -21,7 +22,7 @@ pub(crate) fn put_places<O: Sink>(
 {
     let mut lines = PutBuffer::<LINES>::new();
     for file in 0..files {
-        put_file(file as u64, gathered.numbers(file), places, &mut lines, out)?;
+        put_file(file as u64, gathered.span(file), places, &mut lines, out)?;
     }
     lines.flush(out)
 }
@@ -29,16 +30,15 @@ pub(crate) fn put_places<O: Sink>(
 /// Puts a line for each record of a file, by their numbers among all that were gathered.
 fn put_file<O: Sink>(
     file: u64,
-    numbers: &Numbers,
+    span: Span,
     places: &Numbers,
     lines: &mut PutBuffer<LINES>,
     out: &mut O,
 ) -> Result<(), Failed>
-    requires { AllByRecursion (λ n. n < length places.now) numbers.now }
-    ensures out { PutsThrough O.taken O.lent O.faults result lines.old lines.new (file_lines places.now (file, numbers.now)) out.old out.new }
+    requires { AllByRecursion (λ n. n < length places.now) (numbers_in_span span) }
+    ensures out { PutsThrough O.taken O.lent O.faults result lines.old lines.new (file_lines places.now (file, numbers_in_span span)) out.old out.new }
 {
-    for i in 0..numbers.len() {
-        let number = numbers.get(i);
+    for number in span.first..span.first + span.count {
         let place = places.get(number as usize);
         put_place(file, place, lines, out)?;
     }

@@ -1,4 +1,4 @@
-use Rattle.std.proofs.Common.{◌∙◌, Err, map, refl, ap}
+use Rattle.std.proofs.Common.{◌∙◌, Err, map, ap}
 use Rattle.record_io.proofs.ManyStores.{same_told}
 use Rattle.command_frame.specs.Endings.{HaveTold}
 use Rattle.join_command.specs.CollectingEnds.{AreEachInReach}
@@ -14,7 +14,7 @@ pub returns-in-Err-clause-allowed : goal.returns-in-Err-clause-allowed
 returns-in-Err-clause-allowed g c =
     sized-ended (Unit {0}) c.in-Err.end c.end_of_gather.result _ c.end_of_gather.ensures (
       c.args.sizes.now,
-      same_told g.S.Store.bytes g.S.Store.told g.S.Store.name g.S.Store.faults c.args.files.now c.gather.new.stores c.in-Err.ensures.stores.each ∙ c.requires.sized.are_told,
+      same_told g.S.Store.bytes g.S.Store.told g.S.Store.name g.S.Store.faults c.args.files.now c.gather_batches.new.stores c.in-Err.ensures.stores.each ∙ c.requires.sized.are_told,
       c.requires.sized.in_reach,
     )
 
@@ -25,10 +25,10 @@ returns-in-Err-clause-files g c = record {
 }
 
 -- the files told the same sizes once their records were gathered and put
-sized : (g : _) (c : After-put_gathered-put g) → HaveTold (map g.S.Store.told c.gather.new.stores) AreEachInReach
+sized : (g : _) (c : After-put_gathered-put g) → HaveTold (map g.S.Store.told c.gather_batches.new.stores) AreEachInReach
 sized g c = (
   c.args.sizes.now,
-  same_told g.S.Store.bytes g.S.Store.told g.S.Store.name g.S.Store.faults c.args.files.now c.gather.new.stores c.in-Ok.ensures.stores.each ∙ c.requires.sized.are_told,
+  same_told g.S.Store.bytes g.S.Store.told g.S.Store.name g.S.Store.faults c.args.files.now c.gather_batches.new.stores c.in-Ok.ensures.stores.each ∙ c.requires.sized.are_told,
   c.requires.sized.in_reach,
 )
 

@@ -6,20 +6,21 @@ use Rattle.record_io.specs.Buffers.{TakesAndHolds}
 use Rattle.record_io.proofs.Calls.{OnErr-any}
 use Rattle.number_shares.proofs.Lists.{all_at}
 use Rattle.command_frame.proofs.NoteLines.{front-flushed, whole-flushed}
+use Rattle.record_collect.specs.Batches.{numbers_in_span}
 use Rattle.join_command.specs.CollectCommand.{file_lines, files_lines}
 use Rattle.join_command.proofs.FileLines.{file-failed, file-next}
 use Rattle.join_command.proofs.place_lines.put_places.Goals as goal
 
 pub put_file-requires : goal.put_file-requires
 put_file-requires g c =
-    all_at (AllByRecursion (λ n. n < length c.args.places.now)) c.args.gathered.now.numbers c.loop-file.file c.numbers.result.now c.numbers.ensures
+    all_at (AllByRecursion (λ n. n < length c.args.places.now)) c.args.gathered.now.numbers c.loop-file.file (numbers_in_span c.span.result) c.span.ensures
     c.requires.placed
 
 pub returns-in_err-put_file : goal.returns-in_err-put_file
 returns-in_err-put_file g c = record {
   out = record {
     whole = search rules;
-    front = OnErr-any _ (file-failed c.args.places.now c.args.gathered.now.numbers _ _ _ _ c.loop-file.file c.numbers.result.now c.numbers.ensures
+    front = OnErr-any _ (file-failed c.args.places.now c.args.gathered.now.numbers _ _ _ _ c.loop-file.file (numbers_in_span c.span.result) c.span.ensures
         c.loop-file.invariant.whole c.in_err-put_file.ensures.out.front);
     counts = search rules;
   };
@@ -27,7 +28,7 @@ returns-in_err-put_file g c = record {
 
 pub loop-file-preserved : goal.loop-file-preserved
 loop-file-preserved g c = record {
-  whole = file-next c.args.places.now c.args.gathered.now.numbers _ _ _ _ c.loop-file.file c.numbers.result.now c.numbers.ensures
+  whole = file-next c.args.places.now c.args.gathered.now.numbers _ _ _ _ c.loop-file.file (numbers_in_span c.span.result) c.span.ensures
       c.loop-file.invariant.whole _ c.in_ok-put_file.ensures.out.whole;
   counts = search rules;
 }
