@@ -1,5 +1,5 @@
 -- Files of bytes have an answer of `collect`.
-use Rattle.std.proofs.Common.{ℕ, suc, ◌⊎◌, false, List, [], ◌∷◌, length, map, refl, inl, inr, arith}
+use Rattle.std.proofs.Common.{ℕ, ◌⊎◌, false, List, [], ◌∷◌, length, map, refl, inl, inr}
 use Rattle.std.specs.List.{AllByRecursion, flat_map, sum_by}
 use Rattle.std.proofs.lemmas.Bool.{cases_lt}
 use Rattle.record_values.specs.Bytes.{AreBytes}
@@ -18,7 +18,7 @@ use Rattle.command_frame.specs.declared.status.Status.TheVariants as status
 use Rattle.show_command.specs.Readings.{refused_file_text}
 use Rattle.command_frame.proofs.AskedFiles.{within_or_past}
 use Rattle.join_command.specs.CollectCommand.{IsCollectAnswer, collected_answer, too_much_text}
-use Rattle.join_command.specs.CollectingEnds.{AreEachInReach, IsOneTooLong}
+use Rattle.join_command.specs.CollectingEnds.{AreEachInReach}
 use Rattle.record_collect.specs.Batches.{in_turn, numbers_from}
 use Rattle.record_collect.proofs.Weaves.{in_turn-bounds, in_turn-woven, too_long_or_short}
 

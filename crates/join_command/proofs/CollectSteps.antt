@@ -1,5 +1,5 @@
 -- Files that are asked their sizes, and whose records are then gathered and put into one.
-use Rattle.std.proofs.Common.{◌≡◌, ◌∙◌, ℕ, false, true, Option, Result, Err, List, refl, sym, ap, subst, inl, inr}
+use Rattle.std.proofs.Common.{◌≡◌, ◌∙◌, ℕ, Option, Result, Err, List, refl, sym, ap, subst, inl, inr}
 use Rattle.record_io.specs.Outside.{Takes, TakesShort}
 use Rattle.record_io.specs.Calls.{TakesFront}
 use Rattle.record_io.specs.declared.cut.Cut.{Cut}

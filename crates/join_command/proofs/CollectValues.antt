@@ -1,5 +1,5 @@
 -- The lines of `collect`, judged by hand, computed from the definitions.
-use Rattle.std.proofs.Common.{◌≡◌, ℕ, List, [], ◌∷◌, codes, length, lit<, lit≤, refl, arith}
+use Rattle.std.proofs.Common.{◌≡◌, ℕ, List, [], ◌∷◌, codes, length, lit≤, refl, arith}
 use Rattle.std.specs.Fmt.{digits}
 use Rattle.varint_wire.specs.Varint.{shortest}
 use Rattle.block_layout.specs.Layout.{chunk_end_of, end_of, room}

@@ -1,20 +1,16 @@
 -- What two answers of `collect` to the same files share, and which there are.
-use Rattle.std.proofs.Common.{◌≡◌, ◌≢◌, ◌∙◌, ℕ, ◌≤◌, ◌⊎◌, false, Some, List, [], length, map, refl, sym, ap, inl, inr, arith}
-use Rattle.std.specs.Prelude.{slice_get}
-use Rattle.std.proofs.lemmas.Option.{slice_get-get_or}
-use Rattle.number_shares.proofs.Lists.{all_at}
+use Rattle.std.proofs.Common.{◌≡◌, ◌≢◌, ◌∙◌, ℕ, ◌⊎◌, false, List, [], length, map, refl, sym, ap, inl, inr}
 use Rattle.record_io.specs.Puts.{Made, Out, Notes, bytes_to}
 use Rattle.chunk_reader.specs.declared.reasons.Fault.{Fault}
 use Rattle.chunk_reader.proofs.ManyFiles.{first_is_one, first_or_none}
 use Rattle.record_collect.specs.Gatherings.{AreRecordsOfEach, IsTooMuch, AreWoven, GatheredValue}
 use Rattle.record_collect.proofs.WholeGatherings.{fits, none_of_each}
 use Rattle.command_frame.specs.Answers.{Answer, noted}
-use Rattle.command_frame.specs.FileAnswers.{most_file_bytes}
 use Rattle.command_frame.specs.declared.status.Status.TheVariants as status
 use Rattle.command_frame.proofs.TwoStreams.{bytes_to-neither}
 use Rattle.show_command.specs.Readings.{refused_file_text}
 use Rattle.join_command.specs.CollectCommand.{AreCollectedIn, AreOnlyRefusedIn, AreTooMuchIn, IsCollectAnswer, collected_answer, collected_file, collected_lines}
-use Rattle.join_command.specs.CollectingEnds.{AreEachInReach, IsOneTooLong}
+use Rattle.join_command.specs.CollectingEnds.{AreEachInReach}
 use Rattle.join_command.proofs.AllWeaves.{each_gathered}
 use Rattle.join_command.proofs.CollectAnswers.{is_whole}
 
