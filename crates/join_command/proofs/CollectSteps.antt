@@ -1,17 +1,13 @@
 -- Files that are asked their sizes, and whose records are then gathered and put into one.
-use Rattle.std.proofs.Common.{◌≡◌, ◌∙◌, ℕ, Option, Result, Err, List, refl, sym, ap, subst, inl, inr}
-use Rattle.record_io.specs.Outside.{Takes, TakesShort}
-use Rattle.record_io.specs.Calls.{TakesFront}
+use Rattle.std.proofs.Common.{◌≡◌, ℕ, Option, Result, Err, List, refl, sym, subst, inl, inr}
 use Rattle.record_io.specs.declared.cut.Cut.{Cut}
 use Rattle.record_collect.specs.Ends.{IsGatheredOf}
 use Rattle.record_collect.specs.Gatherings.{AreGatheredOf, GatheredValue}
-use Rattle.record_collect.specs.FilePlaces.{places_in_file}
-use Rattle.command_frame.specs.Writing.{default_chunk_size}
 use Rattle.record_collect.specs.declared.gathering.GatherEnd.{GatherEnd}
 use Rattle.command_frame.specs.declared.ending.Ending.{Ending}
 use Rattle.command_frame.specs.Endings.{HaveTold, IsAllowedEndOfMany}
-use Rattle.join_command.specs.CollectCommand.{collect_meaning, collected_file, collected_lines, files_lines}
-use Rattle.join_command.specs.CollectingEnds.{AreEachInReach, IsOneTooLong, PutsGathered, TakeCollected, TakesAllOrFront, end_of_gather}
+use Rattle.join_command.specs.CollectCommand.{collect_meaning}
+use Rattle.join_command.specs.CollectingEnds.{AreEachInReach, IsOneTooLong, PutsGathered, TakeCollected, end_of_gather}
 use Rattle.join_command.specs.declared.stops.Uncollected.{Uncollected}
 use Rattle.record_collect.specs.declared.gathering.GatherEnd.TheVariants as gather
 use Rattle.record_io.specs.declared.cut.Cut.TheVariants as cut
@@ -45,44 +41,6 @@ file-failed X (gather.Refused index fault) why is failed = cc
 file-failed X gather.TooMuch why is failed = cc
 file-failed X gather.Store why is failed = refl
 file-failed X gather.Memory why is failed = cc
-
--- the lines of the positions in the file
-lines-of : (value : GatheredValue) (records : List (List ℕ)) (places : List ℕ) → records ≡ value.records → places ≡ places_in_file records default_chunk_size
-    → files_lines places value.numbers ≡ collected_lines value
-lines-of value records places same are =
-    ap (λ (ps : List ℕ). files_lines ps value.numbers) (are ∙ ap (λ (rs : List (List ℕ)). places_in_file rs default_chunk_size) same)
-
--- where all was put, so it was of the records and the positions that were told
-pub put-whole : (value : GatheredValue) (records : List (List ℕ)) (places : List ℕ) (made made_then out out_then : Option (List ℕ))
-    → records ≡ value.records → places ≡ places_in_file records default_chunk_size
-    → Takes made made_then (collected_file records) → Takes out out_then (files_lines places value.numbers)
-    → Takes made made_then (collected_file value.records) × Takes out out_then (collected_lines value)
-put-whole value records places made made_then out out_then same are took printed = (
-  subst (λ (rs : List (List ℕ)). Takes made made_then (collected_file rs)) same took,
-  subst (λ (text : List ℕ). Takes out out_then text) (lines-of value records places same are) printed,
-)
-
-pub put-unprinted : (value : GatheredValue) (records : List (List ℕ)) (places : List ℕ) (made made_then out out_then : Option (List ℕ))
-    → records ≡ value.records → places ≡ places_in_file records default_chunk_size
-    → Takes made made_then (collected_file records) → TakesShort out out_then (files_lines places value.numbers)
-    → Takes made made_then (collected_file value.records) × TakesShort out out_then (collected_lines value)
-put-unprinted value records places made made_then out out_then same are took printed = (
-  subst (λ (rs : List (List ℕ)). Takes made made_then (collected_file rs)) same took,
-  subst (λ (text : List ℕ). TakesShort out out_then text) (lines-of value records places same are) printed,
-)
-
--- where the file wasn't written to its end, no line was put
-pub put-failed : (X Y : Type 0) (why : Cut) (value : GatheredValue) (records : List (List ℕ)) (made made_then out : Option (List ℕ)) → records ≡ value.records
-    → TakesAllOrFront {X = X} (Err why) (collected_file records) made made_then → PutsGathered {X = Y} (Err why) value made made_then out out
-put-failed X Y cut.Input value records made made_then out same took = absurd took
-put-failed X Y cut.File value records made made_then out same took = absurd took
-put-failed X Y cut.Made value records made made_then out same took =
-    (subst (λ (rs : List (List ℕ)). TakesShort made made_then (collected_file rs)) same took, refl)
-put-failed X Y cut.Grown value records made made_then out same took = absurd took
-put-failed X Y cut.Out value records made made_then out same took = absurd took
-put-failed X Y cut.Notes value records made made_then out same took = absurd took
-put-failed X Y cut.Memory value records made made_then out same took =
-    (subst (λ (rs : List (List ℕ)). TakesFront made made_then (collected_file rs)) same took, refl)
 
 -- how the work ends where putting was cut off so
 module _ (X Y : Type 0) (value : GatheredValue) (made made_then out out_then : Option (List ℕ)) where

@@ -1,66 +1,67 @@
-ghost use Rattle.std.specs.Prelude.{◌≡◌, ◌<◌, length};
+ghost use Rattle.std.specs.Prelude.{◌≡◌, ◌++◌, ◌<◌, ◌∷◌, IfOk, OnOk, decimal, length};
 ghost use Rattle.std.specs.List.{AllByRecursion};
-ghost use Rattle.record_io.specs.Calls.{PutsThrough, PutsTo};
 ghost use Rattle.record_collect.specs.Batches.{numbers_in_span};
-ghost use Rattle.join_command.specs.CollectCommand.{file_lines, files_lines, place_line};
+ghost use Rattle.command_frame.specs.Answers.{line};
+ghost use Rattle.join_command.specs.CollectCommand.{collected_lines, file_lines, files_lines};
 
+use command_frame::DEFAULT_CHUNK_SIZE;
 use itoa::Buffer;
-use record_collect::{Batches, Numbers, Span};
-use record_io::{Failed, PutBuffer, Sink};
-use show_command::LINES;
+use record_collect::{Batches, Numbers, Span, places_in_turn};
+use std::alloc::{AllocError, Global};
 
-/// Puts a line for each of the gathered records of so many files, which stand at these positions.
-pub(crate) fn put_places<O: Sink>(
+/// The lines of the gathered records of so many files.
+pub(crate) fn lines_of(
+    alloc: Global,
+    gathered: &Batches,
+    files: usize,
+) -> Result<Vec<u8>, AllocError>
+    requires { length gathered.now.numbers ≡ files }
+    ensures { IfOk result (λ text. text.items ≡ collected_lines gathered.now) }
+{
+    let places = places_in_turn(alloc, gathered.batches(), DEFAULT_CHUNK_SIZE)?;
+    lines_at(alloc, gathered, &places, files)
+}
+
+/// Those of records that stand at these positions.
+fn lines_at(
+    alloc: Global,
     gathered: &Batches,
     places: &Numbers,
     files: usize,
-    out: &mut O,
-) -> Result<(), Failed>
+) -> Result<Vec<u8>, AllocError>
     requires many { length gathered.now.numbers ≡ files }
     requires placed { AllByRecursion (AllByRecursion (λ n. n < length places.now)) gathered.now.numbers }
-    ensures out { PutsTo O.taken O.lent O.faults result (files_lines places.now gathered.now.numbers) out.old out.new }
+    ensures { IfOk result (λ text. text.items ≡ files_lines places.now gathered.now.numbers) }
 {
-    let mut lines = PutBuffer::<LINES>::new();
+    let mut text = Vec::new(alloc);
     for file in 0..files {
-        put_file(file as u64, gathered.span(file), places, &mut lines, out)?;
+        push_file(&mut text, file as u64, gathered.span(file), places)?;
     }
-    lines.flush(out)
+    Ok(text)
 }
 
-/// Puts a line for each record of a file, by their numbers among all that were gathered.
-fn put_file<O: Sink>(
-    file: u64,
-    span: Span,
-    places: &Numbers,
-    lines: &mut PutBuffer<LINES>,
-    out: &mut O,
-) -> Result<(), Failed>
+/// Appends a line for each record of a file, by their numbers among all that were gathered.
+fn push_file(text: &mut Vec<u8>, file: u64, span: Span, places: &Numbers) -> Result<(), AllocError>
     requires { AllByRecursion (λ n. n < length places.now) (numbers_in_span span) }
-    ensures out { PutsThrough O.taken O.lent O.faults result lines.old lines.new (file_lines places.now (file, numbers_in_span span)) out.old out.new }
+    ensures { OnOk result (text.new.items ≡ text.old.items ++ file_lines places.now (file, numbers_in_span span)) }
 {
+    let mut buffer = Buffer::new();
+    let file_number = buffer.format(file).as_bytes();
     for number in span.first..span.first + span.count {
         let place = places.get(number as usize);
-        put_place(file, place, lines, out)?;
+        push_place(text, file_number, place)?;
     }
     Ok(())
 }
 
-/// Puts the line of a record.
-fn put_place<O: Sink>(
-    file: u64,
-    place: u64,
-    lines: &mut PutBuffer<LINES>,
-    out: &mut O,
-) -> Result<(), Failed>
-    ensures out { PutsThrough O.taken O.lent O.faults result lines.old lines.new (place_line file place) out.old out.new }
+/// Appends the line of a record, which begins with the number of its file.
+fn push_place(text: &mut Vec<u8>, file: &[u8], place: u64) -> Result<(), AllocError>
+    ensures { OnOk result (text.new.items ≡ text.old.items ++ line (file.now ++ 32 ∷ decimal place)) }
 {
-    let mut number = Buffer::new();
     let mut position = Buffer::new();
-    let pieces = [
-        number.format(file).as_bytes(),
-        " ".as_bytes(),
-        position.format(place).as_bytes(),
-        "\n".as_bytes(),
-    ];
-    lines.put_each(out, &pieces)
+    text.extend_from_slice(file)?;
+    text.push(b' ')?;
+    text.extend_from_slice(position.format(place).as_bytes())?;
+    text.push(b'\n')?;
+    Ok(())
 }
