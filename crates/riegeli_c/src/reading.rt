@@ -117,6 +117,7 @@ pub extern "C" fn riegeli_read_chunk(
     ensures given { result ≡ 0 → (records : List (List ℕ))
         × IsChunkTold file.now at chunk.new records × AreGiven records values.new ends.new }
     ensures refused { result ≡ 1 → TellsFault (IsFaultThere file.now at) fault.new }
+    ensures signed { (result ≡ 0) ⊎ (result ≡ 4) → at ≡ 0 → BeginsWithSignature file.now }
     ensures bad { (result ≡ 2) ↔ IsBadPlace file.now at }
     ensures room { result ≡ 4 → (records : List (List ℕ))
         × IsChunkTold file.now at chunk.new records × IsTooSmall records values.old ends.old }

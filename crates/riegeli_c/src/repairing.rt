@@ -1,4 +1,4 @@
-ghost use Rattle.std.specs.Prelude.{◌≡◌, ◌^◌, ◌<◌, ◌≤◌, ◌↔◌, true, [], Some, None, Err, IfSome, OnOk, length};
+ghost use Rattle.std.specs.Prelude.{◌≡◌, ◌^◌, ◌<◌, ◌≤◌, ◌⊎◌, ◌↔◌, true, [], Some, None, Err, IfSome, OnOk, length};
 ghost use Rattle.record_io.specs.Calls.{OnlyCounts};
 ghost use Rattle.damage_skip.specs.Bounds.{may_skip};
 ghost use Rattle.damage_skip.specs.declared.regions.Region.{Region};
@@ -58,6 +58,7 @@ pub extern "C" fn riegeli_repair(
     ensures answers { result ≤ 4 }
     ensures given { result ≡ 0 → GivesRepair file.now most None repaired.new room.new lines.new }
     ensures stopped { result ≡ 1 → StopsRepair file.now most region.new repaired.new room.new lines.new }
+    ensures within { (result ≡ 0) ⊎ (result ≡ 1) → (repaired.new.bytes ≤ length room.old) × (repaired.new.lines ≤ length lines.old) }
     ensures too_long { (result ≡ 2) ↔ (2 ^ 60 < length file.now) }
     ensures room { result ≡ 4 → MeasuresRepair file.now repaired.new }
     ensures too_small { result ≡ 4 → ExceedsRoom file.now most (length room.old) (length lines.old) }

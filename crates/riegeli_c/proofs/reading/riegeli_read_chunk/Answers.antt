@@ -47,6 +47,9 @@ returns-in-Ok-clause-bad c = (
       (c.is_boundary.ensures.0 (search rules)) bad),
 )
 
+pub returns-in-Ok-clause-signed : goal.returns-in-Ok-clause-signed
+returns-in-Ok-clause-signed c = λ _. c.begins_right.ensures.right (search rules)
+
 pub returns-in-Ok-clause-room : goal.returns-in-Ok-clause-room
 returns-in-Ok-clause-room c = λ is. (
   records_given c.in-Ok.judged.what,
