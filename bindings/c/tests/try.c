@@ -565,10 +565,12 @@ void __wrap_free(void *old) {
     __real_free(old);
 }
 
-/* Makes a call again and again, with one more request granted each time, until all are. */
+/* Makes a call again and again, and refuses the next of its requests for memory each time, until it makes no more. A call that
+ * is refused a request may do with a smaller one, and then answers as it does where none is refused. */
 #define TRY_MEMORY(most, call) \
     do { \
-        uint32_t status; \
+        refused = -1; \
+        uint32_t status, wanted = (call); \
         long refusals = 0, before; \
         for (refused = 0;; refused++) { \
             came = 0; \
@@ -576,12 +578,12 @@ void __wrap_free(void *old) {
             status = (call); \
             CHECK(held == before); \
             if (came <= refused) break; \
-            CHECK(status == RIEGELI_MEMORY); \
+            CHECK(status == RIEGELI_MEMORY || status == wanted); \
             refusals++; \
         } \
         refused = -1; \
-        CHECK(status != RIEGELI_MEMORY && refusals <= (most)); \
-        if (status != RIEGELI_MEMORY) requests += refusals; \
+        CHECK(status == wanted && refusals <= (most)); \
+        requests += refusals; \
     } while (0)
 
 static long requests;
