@@ -57,7 +57,7 @@ IsAppended words rest file answer =
     ((fault : Fault) × IsRefusedToGrow words.cut file fault × (answer ≡ noted status.Refused (refused_text fault)))
     ⊎ ((place : ℕ) × IsUnrefused words.cut file × IsKeptTo file place × (answer ≡ grown_answer words file place rest))
 
--- what is taken from an input, of which 2 ^ 40 bytes are read
+-- what is taken from an input, of which at most 2 ^ 40 bytes are read
 abbrev pub lines_taken : AppendWords → (input : List ℕ) → Rest
 lines_taken words input = taken_from input words.write.hex (2 ^ 40)
 
@@ -67,14 +67,14 @@ IsLeft words rest file held =
     (((most_file_bytes < length file) ⊎ ((fault : Fault) × IsRefusedToGrow words.cut file fault)) × (held ≡ file))
     ⊎ ((length file ≤ most_file_bytes) × HoldsAppended words.write.options words.cut file rest.records (Some held))
 
--- what it may hold where the work was cut off: what it held or, where it isn't refused, what is kept of that and a front of what
--- it grows by
+-- what it may hold where the work was cut off or notes failed: what it held or, where it isn't too long or refused, what is kept
+-- of that and a front of what it grows by
 abbrev pub MayBeLeft : AppendWords → Rest → (file held : List ℕ) → Type 0
 MayBeLeft words rest file held =
     (held ≡ file) ⊎ ((length file ≤ most_file_bytes) × HoldsGrownInPart words.write.options words.cut file rest.records (Some held))
 
 -- what the file keeps, by the status, whatever the input: all where it is too long or refused; up to the place to which it is kept
--- where records were put behind that, also where standard output failed then; and one of these where the work was cut off before
+-- where records were put behind that, also where standard output failed then; and with any other status one of these
 abbrev pub KeepsByStatus : Bool → Status → (file held : List ℕ) → Type 0
 KeepsByStatus cut status.Ok file held = (place : ℕ) × GrowsFrom cut file place held
 KeepsByStatus cut status.BadLine file held = (place : ℕ) × GrowsFrom cut file place held

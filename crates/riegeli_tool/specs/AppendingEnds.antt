@@ -53,7 +53,7 @@ HasTold bytes told P =
     × ((told ≡ Some size) ⊎ ((told ≡ None) × IsInReach (size ∷ [])))
 
 -- the work may end so, by the size that the file told: past the limit, or within it, unless the file failed; it tells that still
--- where it is too long or refused
+-- where it is too long or refused, and is refused only where it has a byte, for a reason for which files are
 abbrev pub IsSizedBy : {X : Type 0} → Result X (Ending Unappended) → AppendWords → (bytes : Option (List ℕ)) (told : Option ℕ) → Type 0
 IsSizedBy (Ok x) words bytes told = HasTold bytes told (λ size. IsInReach (size ∷ []))
 IsSizedBy (Err end.Limit) words bytes told = HasTold bytes told (λ size. IsTooLong (size ∷ []) × (told ≡ Some size))
@@ -63,7 +63,7 @@ IsSizedBy (Err (end.At (Stopped stop count))) words bytes told = HasTold bytes t
 IsSizedBy (Err (end.Cut cut.Grown)) words bytes told = (append_meaning words).uses.grown ≡ true
 IsSizedBy (Err (end.Cut cut)) words bytes told = MayBeCut (append_meaning words) cut × HasTold bytes told (λ size. IsInReach (size ∷ []))
 
--- all records were put to the file, and this was printed of what became of it
+-- all records were put to the file, and of what became of it was printed what Prints says: all, or a front and not all
 abbrev pub IsTold : ((before after : Option (List ℕ)) → List ℕ → Type 0) → AppendWords → Rest → (file : List ℕ) (held out out_then : Option (List ℕ)) → Type 0
 IsTold Prints words rest file held out out_then =
     (rest.stop ≡ None) × (place : ℕ) × HoldsGrown words.write.options words.cut file place rest.records held

@@ -37,7 +37,7 @@ usage_text =
 abbrev pub usage : Answer
 usage = noted status.Usage usage_text
 
--- what is said where the words are no command
+-- what words mean that are no command
 abbrev pub usage_meaning : Meaning
 usage_meaning = record (meaning none_used (λ r answer. answer ≡ usage)) {
   is_command = false;

@@ -5,7 +5,7 @@ use Rattle.sample_command.specs.SampleCommand.{most_records}
 use Rattle.riegeli_tool.specs.declared.command.Command.{Command}
 use Rattle.riegeli_tool.specs.declared.command.Command.TheVariants.{Write, Sample, Join, Ranges, Append, Collect}
 
--- what the words of a command say is within its limits
+-- what the words of a command say is within the limits that its call asks for, where it asks for any
 abbrev pub IsWithinLimits : Command → Type 0
 IsWithinLimits (Write words) = AreInLimits words.options
 IsWithinLimits (Sample words) = AreInLimits words.options × (words.count ≤ most_records)

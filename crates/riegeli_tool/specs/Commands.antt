@@ -15,8 +15,8 @@ command_of (name ∷ words) = command_named name (name ∷ words)
 abbrev pub none_named : Names
 none_named = record { first = 0; count = 0; made = None; times = 1; grown = None }
 
--- the places of the files among the words of a command: those that are read, how many these are and how many stores there are
--- to be of each, the one that is made and the one that is grown
+-- the files among the words of a command: the place of the first that is read, how many are, one behind another, and how many
+-- stores there are to be of each; the place of the one that is made, and of the one that is grown
 abbrev pub names_by : Command → Names
 names_by (Write words) = record none_named { made = Some words.file }
 names_by (Show words) = record none_named { first = words.file; count = 1 }

@@ -37,7 +37,8 @@ repaired_as given stopped = record {
 
 -- an answer to a damaged file is that of the chunks reached before one, where the walk ends: at the file's end, or at what
 -- damage leaves of this chunk where that is a region that may not be skipped. What is given are the records of the untouched
--- ones, and their chunks, where they are copied; and the regions that damage leaves of the others
+-- ones, and their chunks, where they are copied; and the regions that damage leaves of the others, which may all be skipped.
+-- Those that aren't reached are lost up to a block
 pub record IsAnswerPastDamage (unread_ok : Bool) (most : Option ℕ)
     (answer_as : List Piece → Option Region → Answer) (ks : List ChunkValue)
     (intact : Intact) (answer : Answer) : Type 0 where
@@ -59,7 +60,8 @@ pub record IsAnswerPastDamage (unread_ok : Bool) (most : Option ℕ)
   pub chunks : chunks_in (events_in pieces) ≡ copied unread_ok (untouched ks intact numbers)
   pub lost : AreLostUpToABlock ks intact to numbers
 
--- an answer to the front of a file of chunks is that of the pieces of the chunks that it has whole, and of the one that is cut
+-- an answer to the front of a file of chunks is that of the pieces of the chunks that it has whole, and of the one that is cut,
+-- up to the first region that may not be skipped
 pub record IsAnswerToFront (unread_ok : Bool) (most : Option ℕ)
     (answer_as : List Piece → Option Region → Answer) (ks : List ChunkValue) (file : List ℕ)
     (m : ℕ) (answer : Answer) : Type 0 where

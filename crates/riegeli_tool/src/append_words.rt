@@ -5,6 +5,6 @@ use write_command::write_words::WriteWords;
 pub(crate) struct AppendWords {
     /// How records are written, with the place of the grown file among the words.
     pub write: WriteWords,
-    /// Whether all is cut off that stands behind the last whole chunk.
+    /// Whether more is cut off behind the last whole chunk than a chunk that the file ends within.
     pub cut: bool,
 }

@@ -51,7 +51,7 @@ pub(crate) fn append_command<'a>(words: &'a [String]) -> Option<Command<'a>>
     }))
 }
 
-/// What words say whose options are these, and others that they are read for apart.
+/// What the words of a command say that reads lines. It has these options, and reads those of its own itself.
 #[tactic(auto, unfolding(crate::specs::CommandWords::line_words_of))]
 fn line_words(options: &[&str], words: &[String]) -> Option<WriteWords>
     ensures { result ≡ line_words_of (map (λ option. option.now) options.now) (map string_bytes words.now) }

@@ -72,8 +72,8 @@ pub fn answers_are_one()
         → IsAnswerTo (accepted words (length r.files)) r a → IsAnswerTo (accepted words (length r.files)) r b → a ≡ b }
 {}
 
-/// Where no object that a command uses had a fault, a run of it gives its whole answer, or tells want of memory: its status is
-/// an answer's, or that one, and the status of a fault never stands without one. Own.
+/// Where no object that a command uses had a fault, the status of a run of it is one of a whole answer, or tells want of memory:
+/// an answer's, where what it reads is shown, or that one. So the status of a fault never stands without one. Own.
 pub fn no_fault_without_a_cause()
     ensures whole { (command : Option Command) (before after : Seen) (ended : Status)
         → Runs (meaning_of command) before after ended → HadNoFault (meaning_of command).uses before after
@@ -84,7 +84,7 @@ pub fn no_fault_without_a_cause()
         ⊎ (ended ≡ status.Memory)) }
 {}
 
-/// Words that are no command end with the usage text, or with a fault of notes. Own.
+/// Words that are no command end with the status of usage, or with that of a fault of notes. Own.
 pub fn no_command_is_usage()
     ensures usage { (before after : Seen) (ended : Status)
         → Runs (meaning_of None) before after ended → (ended ≡ status.Usage) ⊎ (ended ≡ status.Notes) }
@@ -105,8 +105,8 @@ pub fn answers_stand_on_what_is_used()
 
 /// Each file of bytes has an answer of `show`, whatever its words, also of those that go on past damage, one of `verify`,
 /// one of `seek` for each position and key, one of `repair`, and with each input one of `append`; and files have one of `join`, one
-/// of `collect`, and one of `ranges` where they are one file, once their sizes let it be read. So all words have an answer, of the bytes of any
-/// input and files. Own.
+/// of `collect`, and one of `ranges` where they are one file, once their sizes let it be read. So all words have an answer, of the
+/// bytes of any input and files of which holds what the command supposes. Own.
 pub fn file_answers_exist()
     ensures show { (words : ShowWords) (file : List ℕ) → AreBytes file → (answer : Answer) × IsShown words file answer }
     ensures recover { (words : RecoverWords) (file : List ℕ) → AreBytes file → (answer : Answer) × IsRecovered words file answer }
@@ -169,8 +169,8 @@ pub fn streams_take_their_parts()
         × (bytes_to Notes answer.puts ≡ []) }
 {}
 
-/// Where all stores show one file, of at most 2^28 bytes, `ranges` ends as `show` of that file does, and says the same in
-/// notes; and where the file has no fault it prints the same: the records as they are, with nothing before them. Own.
+/// Where all stores show one file, of at most 2^28 bytes, `ranges` ends as `show` of that file, without options, does, and says
+/// the same in notes; and where the file has no fault it prints the same: the records as they are, with nothing before them. Own.
 pub fn ranges_print_what_show_prints()
     ensures same { (words : ShowWords) (files : List (List ℕ)) (file : List ℕ) (shown answer : Answer)
         → files ≢ [] → AllByRecursion (λ other. other ≡ file) files → length file ≤ most_range_bytes → words.form ≡ bare

@@ -56,8 +56,8 @@ collect FROM... TO
 /// # Errors
 ///
 /// - `Usage` where the words are no command that reads so many files.
-/// - `Refused` where the file is not well formed, or for `show`, `ranges` and `collect` not readable; for `seek` where what it
-///   reads of it isn't; for `append` also where it may not be cut. Of several files, where one is refused.
+/// - `Refused` where a file is not well formed, of `verify` and `join`, or not readable, of `show`, `ranges` and `collect`; of
+///   `seek` where what it reads isn't; of `append` where the file doesn't begin as files do, or may not be cut.
 /// - `NotFound` where `seek` finds no record.
 /// - `Limit` where a line has more than 2^24 bytes, or 2^25 in the hexadecimal form, the input more than 2^40, the file more than
 ///   2^60, as the files of `join` have together with 131,072 bytes for each but the last, or that of `ranges` more than 2^28, or
