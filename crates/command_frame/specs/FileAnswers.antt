@@ -13,7 +13,7 @@ use Rattle.command_frame.specs.declared.status.Status.TheVariants as status
 abbrev pub count_line : List ℕ → ℕ → List ℕ
 count_line name number = line (name ++ 32 ∷ decimal number)
 
--- the report of a file's totals, of which `bytes` is its length
+-- the report of a file's totals, of which `bytes` is the length of the file
 abbrev pub report : Totals → List ℕ
 report totals =
     concat (

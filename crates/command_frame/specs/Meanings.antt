@@ -35,8 +35,7 @@ pub record Meaning : Type 1 where
   -- its answers to what it reads: laws of riegeli_tool say of which commands there is always one
   -- (`file_answers_exist`) and never another (`answers_are_one`)
   pub answers : Read → Answer → Type 0
-  -- what it may have put where it can't read on or has no memory, as of a file that is shown that of some whole chunks, by how
-  -- many bytes its files had handed out before and after the work
+  -- what it may have put where it can't read on or has no memory, by how much its files had handed out before and after the work
   pub may_have_put : Read → (before after : List ℕ) → List Put → Type 0
   -- what the file that it grows holds then, also where standard output failed, and may hold where it was cut off
   pub leaves : Read → List ℕ → Type 0
@@ -56,7 +55,7 @@ pub record Meaning : Type 1 where
   pub most_taken : ℕ
 
 -- a command that uses these: it supposes nothing, reads and grows no file, says nothing before its end, and takes nothing of the
--- input. What is ⊥ here is asked only of files that it uses, and of its end, which each command tells itself
+-- input. In place of ⊥ each tells how it ends, one that reads files what it may take, and one that grows a file what that holds
 abbrev pub meaning : Uses → (Read → Answer → Type 0) → Meaning
 meaning uses answers = record {
   is_command = true;

@@ -6,8 +6,8 @@ use Rattle.command_frame.specs.Meanings.{Meaning}
 use Rattle.command_frame.specs.RunObjects.{Seen, OneRose, NoneFell}
 use Rattle.command_frame.specs.declared.status.Status.TheVariants as status
 
--- what is behind a status: no command, or an object that the command uses and that had a fault. Of want of memory only that the
--- command uses some, and of other statuses nothing is said here
+-- what is behind a status: no command, or an object that the command uses and whose count of faults rose. Of want of memory only
+-- that the command uses some, and of other statuses nothing is said here
 abbrev pub HasCause : Status → Meaning → Seen → Seen → Type 0
 HasCause status.Usage m before after = m.is_command ≡ false
 HasCause status.Input m before after = (m.uses.input ≡ true) × Rose before.input.faults after.input.faults

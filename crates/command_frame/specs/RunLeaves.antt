@@ -1,4 +1,4 @@
--- Promise. What a run leaves that was cut off, or that notes failed. Own.
+-- Promise. What a run leaves where it was cut off, or where notes failed. Own.
 use Rattle.std.specs.Prelude.{◌≡◌, ℕ, ◌⊎◌, true, IfSome, IsSomeAnd, List, ◌++◌, take}
 use Rattle.std.specs.List.{flat_map}
 use Rattle.record_io.specs.Outside.{Rose, Takes}
@@ -41,8 +41,7 @@ TakesThen before after text last =
     (part : List ℕ) × Takes before.bytes after.bytes (text ++ part)
     × ((part ≡ last) ⊎ (Rose before.faults after.faults × (n : ℕ) × (part ≡ take n last)))
 
--- where a front of what is put broke off: before a byte that goes to the sink that failed, or anywhere, where what is read failed or
--- memory was wanting
+-- where a front of what is put broke off: before a byte for the sink that failed; where no sink did, anywhere, also at the end
 abbrev pub Breaks : Status → (part puts : List Put) → Type 0
 Breaks status.Made part puts = BreaksOff Made part puts
 Breaks status.Out part puts = BreaksOff Out part puts
@@ -71,21 +70,22 @@ pub record WentOutSoFar (m : Meaning) (ended : Status) (before after : Seen) (r 
   pub out : Takes before.out.bytes after.out.bytes (bytes_to Out part)
   pub notes : TakesThen before.notes after.notes (bytes_to Notes part) (fault_text ended)
 
--- notes failed to take what an answer says: of what it puts a front went out
+-- notes failed to take what an answer says: of what it puts a front went out, up to a byte for notes
 pub record FailedToSay (before after : Taken) (answer : Answer) : Type 0 where
   pub part : List Put
   pub broke : BreaksOff Notes part answer.puts
   pub went : GoOut before after part
 
--- what a run leaves that was cut off or that notes failed; and, whatever its status, of a file that grows
+-- what a run leaves where it was cut off or notes failed; and, whatever its status, of a file that grows
 pub record RunLeaves (m : Meaning) (before after : Seen) (ended : Status) : Type 0 where
-  -- where the work was cut off, or notes failed, a front of what an answer puts went out
+  -- where the work was cut off, or notes failed, a front of what an answer puts went out. Of work that was cut off `so_far` says
+  -- further which front, and `cut_off_said` of `RunSays` what notes took before their last line: all hold of one run
   pub cut_off : IsCutOff ended → IfAnswered m before (WasCutOff ended before after)
   pub failed_to_say : ended ≡ status.Notes
       → IfAnswered m before (FailedToSay (taken_in before) (taken_in after))
   pub grown_cut : IsCutOff ended ⊎ (ended ≡ status.Notes) → IfGrown m before after m.may_leave
   pub grown_kept : m.uses.grown ≡ true → IfSome before.grown.bytes (λ held. IsSomeAnd after.grown.bytes (λ holds. m.keeps ended held holds))
-  -- where reading was cut off, and no sink of the work failed too, what went out ends where the
-  -- command may break off, as behind a whole chunk; where one did, it is a front as `cut_off` says
+  -- where reading was cut off, and neither the made file nor standard output failed too, what went out ends where the command may
+  -- break off, as behind a whole chunk; where one did, it is any front, as `cut_off` says
   pub so_far : IsReadingCutOff ended → HadNoSinkFault m.uses before after
       → IfRead m before (WentOutSoFar m ended before after)

@@ -26,13 +26,13 @@ handed_by files = map (λ file. file.handed) files
 abbrev pub taken_in : Seen → Taken
 taken_in objects = taken_by objects.made.bytes objects.out.bytes objects.notes.bytes
 
--- the count of faults of one of the files rose
+-- the count of faults of one of the files rose, or stands at its greatest
 abbrev pub OneRose : List SeenFile → List SeenFile → Type 0
 OneRose before after =
     (place : ℕ) × (a : SeenFile) × (b : SeenFile)
     × (slice_get before place ≡ Some a) × (slice_get after place ≡ Some b) × Rose a.faults b.faults
 
--- neither the made file nor standard output had a fault, where they are used
+-- neither the count of faults of the made file nor that of standard output rose or stands at its greatest, where they are used
 pub record HadNoSinkFault (uses : Uses) (before after : Seen) : Type 0 where
   pub made : uses.made ≡ true → ¬ Rose before.made.faults after.made.faults
   pub out : uses.out ≡ true → ¬ Rose before.out.faults after.out.faults

@@ -21,8 +21,8 @@ IfRead m before P = (r : Read) → IsReadBy m before r → P r
 abbrev pub IfAnswered : Meaning → Seen → (Answer → Type 0) → Type 0
 IfAnswered m before P = IfRead m before (λ r. (answer : Answer) × m.answers r answer × P answer)
 
--- P holds of the sizes of the files that a command reads or grows: they have told these, and their bytes, where all of them
--- show theirs, are so many. Where it uses no files the sizes are any
+-- P holds of the sizes of the files that a command reads or grows: those that they told last, in the run or before. Their bytes,
+-- where all of them show theirs, are so many. Where it uses no files the sizes are any
 pub record OfSizes (m : Meaning) (before after : Seen) (P : List ℕ → Type 0) : Type 0 where
   pub sizes : List ℕ
   pub told : m.uses.files ≡ true → map (λ file. file.told) after.files ≡ map Some sizes

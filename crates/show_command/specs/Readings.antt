@@ -41,13 +41,12 @@ bytes_text hex bytes = if hex then encode_lower bytes else bytes
 abbrev pub record_line : RecordForm → ℕ × List ℕ → List ℕ
 record_line form placed = line (position_text form.positions placed.0 ++ bytes_text form.hex placed.1)
 
--- how many bytes of a file of such a size strict reading hands out at most, whatever it holds: together as many as it has
+-- how many bytes of a file of such a size strict reading hands out at most, whatever it holds: in sum as many as it has
 abbrev pub MayTakeOnce : (sizes before after : List ℕ) → Type 0
 MayTakeOnce (size ∷ []) (before ∷ []) (after ∷ []) = after ≤ before + size
 MayTakeOnce sizes before after = ⊥
 
--- how strict reading of a file of such a size may end, whatever it holds: with its work done or with a fault, or as the
--- file is too long
+-- how strict reading of a file of such a size may end, whatever it holds: done, with any fault, or as the file is too long
 abbrev pub MayEndReading : List ℕ → Status → List ℕ → Type 0
 MayEndReading sizes ended text =
     (IsInReach sizes × (ended ≡ status.Ok) × (text ≡ []))
