@@ -70,6 +70,10 @@ IsAllowedEnd m (Err (end.Cut cut)) told = MayBeCut m cut × IsSomeAnd told (λ s
 abbrev pub HaveTold : List (Option ℕ) → (List ℕ → Type 0) → Type 0
 HaveTold told P = (sizes : List ℕ) × (told ≡ map Some sizes) × P sizes
 
+-- sizes of files past a limit, by which they would be read
+abbrev pub ArePast : (within : List ℕ → Type 0) → List ℕ → Type 0
+ArePast within sizes = ¬ within sizes
+
 -- the work of a command that reads several files may end so, by the sizes that they told: at the limit by these, at what it
 -- doesn't go past by those, and else by such as let it go on to its work, unless a file failed
 abbrev pub IsAllowedEndOfMany : {X W : Type 0} → Meaning → (past : List ℕ → Type 0) → (stops : W → List ℕ → Type 0)

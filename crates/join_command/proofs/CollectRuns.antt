@@ -11,7 +11,7 @@ use Rattle.command_frame.specs.declared.ending.Ending.{Ending}
 use Rattle.command_frame.specs.declared.status.Status.{Status}
 use Rattle.command_frame.specs.Answers.{Answer, noted}
 use Rattle.command_frame.specs.AskedFiles.{AsksFiles}
-use Rattle.command_frame.specs.Endings.{SaysEnd}
+use Rattle.command_frame.specs.Endings.{ArePast, SaysEnd}
 use Rattle.command_frame.specs.FileAnswers.{limit_text}
 use Rattle.command_frame.specs.Runs.{Runs}
 use Rattle.command_frame.specs.RunObjects.{seen}
@@ -22,7 +22,7 @@ use Rattle.command_frame.proofs.ManyFilesEnds.{MayEndBy, EndsBySizes, ReadsFiles
 use Rattle.command_frame.proofs.TwoStreams.{GoOut-both, GoOut-first, GoOut-neither, bytes_to-neither}
 use Rattle.show_command.specs.Readings.{refused_file_text}
 use Rattle.join_command.specs.CollectCommand.{IsCollectAnswer, IsCollectedSoFar, collect_meaning, collected_answer, collected_file, collected_lines, too_much_text}
-use Rattle.join_command.specs.CollectingEnds.{AreEachInReach, IsOneTooLong, TakeCollected, collecting_ends, uncollected_status, uncollected_text}
+use Rattle.join_command.specs.CollectingEnds.{AreEachInReach, TakeCollected, collecting_ends, uncollected_status, uncollected_text}
 use Rattle.join_command.specs.declared.stops.Uncollected.{Uncollected}
 use Rattle.join_command.proofs.CollectAnswers.{answer_in_reach, collect_exists, is_whole}
 use Rattle.record_io.specs.declared.cut.Cut.TheVariants as cut
@@ -48,7 +48,7 @@ stop_other : (w : Uncollected) → uncollected_status w ≢ status.Ok
 stop_other (uncollected.Refused index fault) is = cc is
 stop_other uncollected.TooMuch is = cc is
 
-ends-collect : {X : Type 0} → EndsBySizes {X = X} collect_meaning collecting_ends IsOneTooLong (λ _. AreEachInReach)
+ends-collect : {X : Type 0} → EndsBySizes {X = X} collect_meaning collecting_ends (ArePast AreEachInReach) (λ _. AreEachInReach)
 ends-collect = record {
   done = λ x. refl;
   may_work = λ sizes within. inl (within, inl (refl, refl));
@@ -89,7 +89,7 @@ module _ (all : List (List ℕ)) (made made_then out out_then notes : Option (Li
   }
 
   went-collect : {X : Type 0} (result : Result X (Ending Uncollected)) → AllByRecursion AreBytes all
-      → MayEndBy collect_meaning IsOneTooLong (λ _. AreEachInReach) result (map length all) → TakeCollected result all made made_then out out_then
+      → MayEndBy collect_meaning (ArePast AreEachInReach) (λ _. AreEachInReach) result (map length all) → TakeCollected result all made made_then out out_then
       → WentAtEnd collecting_ends (IsCollectAnswer all) (IsCollectedSoFar all) result (taken_by made out notes) (taken_by made_then out_then notes)
   went-collect (Ok x) bytes reach (value, gathered, (whole, printed)) =
       went_whole (IsCollectAnswer all) (collected_answer value) (taken_by made out notes) (taken_by made_then out_then notes)
@@ -134,7 +134,7 @@ pub runs-collected : {S L X : Type 0} (bytes : S → Option (List ℕ)) (told : 
     (input made made_then : SeenStream) (grown : SeenFile) (out out_then notes notes_then : SeenStream)
     (result : Result X (Ending Uncollected)) (ended : Status)
     → ((file : S) → IfSome (bytes file) (λ bs. IfSome (told file) (λ size. size ≡ length bs)))
-    → AsksFiles bytes told handed name faults collect_meaning IsOneTooLong (λ _. AreEachInReach) result files files_then
+    → AsksFiles bytes told handed name faults collect_meaning (ArePast AreEachInReach) (λ _. AreEachInReach) result files files_then
     → made.faults ≤ made_then.faults → out.faults ≤ out_then.faults → notes.faults ≤ notes_then.faults
     → ((all : List (List ℕ)) → map bytes files ≡ map Some all → TakeCollected result all made.bytes made_then.bytes out.bytes out_then.bytes)
     → SaysEnd collecting_ends result ended notes notes_then
@@ -145,7 +145,7 @@ pub runs-collected : {S L X : Type 0} (bytes : S → Option (List ℕ)) (told : 
     (seen input (map (seen_file bytes told handed faults) files_then) made_then grown out_then notes_then) ended
 runs-collected bytes told handed name faults files files_then input made made_then grown out out_then notes notes_then result ended sized asks m o n took says made_rose out_rose =
     runs-asked bytes told handed name faults files files_then collect_meaning (λ all. Unit {0}) IsCollectAnswer IsCollectedSoFar reads-collect
-    collecting_ends IsOneTooLong (λ _. AreEachInReach) ends-collect input made made_then grown out out_then notes notes_then result ended
+    collecting_ends (ArePast AreEachInReach) (λ _. AreEachInReach) ends-collect input made made_then grown out out_then notes notes_then result ended
     sized asks m o n
     (λ all is are supposed within.
     went-collect all made.bytes made_then.bytes out.bytes out_then.bytes notes.bytes result are within (took all is))

@@ -5,9 +5,9 @@ use Rattle.record_collect.specs.Ends.{IsGatheredOf}
 use Rattle.record_collect.specs.Gatherings.{AreGatheredOf, GatheredValue}
 use Rattle.record_collect.specs.declared.gathering.GatherEnd.{GatherEnd}
 use Rattle.command_frame.specs.declared.ending.Ending.{Ending}
-use Rattle.command_frame.specs.Endings.{HaveTold, IsAllowedEndOfMany}
+use Rattle.command_frame.specs.Endings.{ArePast, HaveTold, IsAllowedEndOfMany}
 use Rattle.join_command.specs.CollectCommand.{collect_meaning}
-use Rattle.join_command.specs.CollectingEnds.{AreEachInReach, IsOneTooLong, PutsGathered, TakeCollected, end_of_gather}
+use Rattle.join_command.specs.CollectingEnds.{AreEachInReach, PutsGathered, TakeCollected, end_of_gather}
 use Rattle.join_command.specs.declared.stops.Uncollected.{Uncollected}
 use Rattle.record_collect.specs.declared.gathering.GatherEnd.TheVariants as gather
 use Rattle.record_io.specs.declared.cut.Cut.TheVariants as cut
@@ -25,10 +25,10 @@ took-ended X e why made out all is gathered =
       by_end gather.Memory h = inl (refl, refl)
 
 pub sized-ended : (X : Type 0) (e : GatherEnd) (why : Ending Uncollected) (told : List (Option ℕ)) → why ≡ end_of_gather e
-    → HaveTold told AreEachInReach → IsAllowedEndOfMany {X = X} collect_meaning IsOneTooLong (λ _. AreEachInReach) (Err why) told
+    → HaveTold told AreEachInReach → IsAllowedEndOfMany {X = X} collect_meaning (ArePast AreEachInReach) (λ _. AreEachInReach) (Err why) told
 sized-ended X e why told is sized =
-    subst (λ (w : Ending Uncollected). IsAllowedEndOfMany {X = X} collect_meaning IsOneTooLong (λ _. AreEachInReach) (Err w) told) (sym is) (by_end e) where
-      by_end : (e : GatherEnd) → IsAllowedEndOfMany {X = X} collect_meaning IsOneTooLong (λ _. AreEachInReach) (Err (end_of_gather e)) told
+    subst (λ (w : Ending Uncollected). IsAllowedEndOfMany {X = X} collect_meaning (ArePast AreEachInReach) (λ _. AreEachInReach) (Err w) told) (sym is) (by_end e) where
+      by_end : (e : GatherEnd) → IsAllowedEndOfMany {X = X} collect_meaning (ArePast AreEachInReach) (λ _. AreEachInReach) (Err (end_of_gather e)) told
       by_end (gather.Refused index fault) = sized
       by_end gather.TooMuch = sized
       by_end gather.Store = refl
@@ -55,7 +55,7 @@ module _ (X Y : Type 0) (value : GatheredValue) (made made_then out out_then : O
   took-cut cut.Memory all put gathered = inr (value, gathered, put)
 
   pub sized-cut : (why : Cut) (told : List (Option ℕ)) → PutsGathered {X = X} (Err why) value made made_then out out_then → HaveTold told AreEachInReach
-      → IsAllowedEndOfMany {X = Y} {W = Uncollected} collect_meaning IsOneTooLong (λ _. AreEachInReach) (Err (end.Cut why)) told
+      → IsAllowedEndOfMany {X = Y} {W = Uncollected} collect_meaning (ArePast AreEachInReach) (λ _. AreEachInReach) (Err (end.Cut why)) told
   sized-cut cut.Input told (never, unprinted) sized = absurd never
   sized-cut cut.File told (never, unprinted) sized = absurd never
   sized-cut cut.Made told put sized = (refl, sized)

@@ -1,4 +1,5 @@
 -- The lines of `collect`, judged by hand, computed from the definitions.
+use Rattle.command_frame.specs.Endings.{ArePast}
 use Rattle.std.proofs.Common.{◌≡◌, ℕ, List, [], ◌∷◌, codes, length, lit≤, refl, arith}
 use Rattle.std.specs.Fmt.{digits}
 use Rattle.varint_wire.specs.Varint.{shortest}
@@ -7,7 +8,7 @@ use Rattle.meta_chunk.specs.Files.{laid_each}
 use Rattle.meta_chunk.specs.Laid.{laid_bytes}
 use Rattle.record_group.specs.Groups.{groups, file_of}
 use Rattle.join_command.specs.CollectCommand.{collected_file, collected_lines, files_lines, too_much_text}
-use Rattle.join_command.specs.CollectingEnds.{AreEachInReach, IsOneTooLong}
+use Rattle.join_command.specs.CollectingEnds.{AreEachInReach}
 
 -- two files, the second of which has the first and the last of four records, and a file without records
 two_files : files_lines (64 ∷ 65 ∷ 66 ∷ 108 ∷ []) ((1 ∷ 2 ∷ []) ∷ (0 ∷ 3 ∷ []) ∷ []) ≡ codes "0 65\n0 66\n1 64\n1 108\n"
@@ -42,5 +43,5 @@ length_of_six = refl
 in_reach : AreEachInReach (0 ∷ 1152921504606846976 ∷ [])
 in_reach = (lit≤ tt, (lit≤ tt, tt))
 
-too_long : IsOneTooLong (0 ∷ 1152921504606846977 ∷ [])
+too_long : ArePast AreEachInReach (0 ∷ 1152921504606846977 ∷ [])
 too_long = λ within. omega (arith, within.1.0)

@@ -16,7 +16,7 @@ use Rattle.command_frame.specs.declared.ending.Ending.{Ending}
 use Rattle.command_frame.specs.declared.status.Status.{Status}
 use Rattle.command_frame.specs.Answers.{Answer}
 use Rattle.command_frame.specs.AskedFiles.{AsksFiles}
-use Rattle.command_frame.specs.Endings.{SaysEnd}
+use Rattle.command_frame.specs.Endings.{ArePast, SaysEnd}
 use Rattle.command_frame.specs.FileAnswers.{limit_text, report}
 use Rattle.command_frame.specs.Runs.{Runs}
 use Rattle.command_frame.specs.RunObjects.{seen}
@@ -26,7 +26,7 @@ use Rattle.command_frame.proofs.ManyFilesEnds.{MayEndBy, EndsBySizes, ReadsFiles
 use Rattle.command_frame.proofs.TwoStreams.{GoOut-both, GoOut-first, GoOut-neither, bytes_to-neither}
 use Rattle.show_command.specs.Readings.{refused_file_text}
 use Rattle.join_command.specs.JoinCommand.{AreTogetherInReach, IsJoinAnswer, AreToJoin, IsJoinedSoFar, MayJoin, join_meaning}
-use Rattle.join_command.specs.JoiningEnds.{AreTooLong, TakeJoined, joining_ends}
+use Rattle.join_command.specs.JoiningEnds.{TakeJoined, joining_ends}
 use Rattle.join_command.specs.declared.refusals.Refusal.{Refusal}
 use Rattle.join_command.proofs.JoinAnswers.{whole_answer, refused_answer, join_exists}
 use Rattle.record_io.specs.declared.cut.Cut.TheVariants as cut
@@ -91,7 +91,7 @@ reads-join : ReadsFiles join_meaning (λ all. Unit {0}) IsJoinAnswer IsJoinedSoF
 reads-join =
     reads_files join_meaning.uses (λ all. Unit {0}) IsJoinAnswer IsJoinedSoFar AreTogetherInReach MayJoin join_meaning.may_end refl refl refl
 
-ends-join : {X : Type 0} → EndsBySizes {X = X} join_meaning joining_ends AreTooLong (λ _. AreTogetherInReach)
+ends-join : {X : Type 0} → EndsBySizes {X = X} join_meaning joining_ends (ArePast AreTogetherInReach) (λ _. AreTogetherInReach)
 ends-join = record {
   done = λ x. refl;
   may_work = λ sizes within. inl (within, inl (refl, refl));
@@ -117,7 +117,7 @@ module _ (all : List (List ℕ)) (made made_then out out_then notes : Option (Li
   }
 
   went-join : {X : Type 0} (result : Result X (Ending Refusal)) → AllByRecursion AreBytes all → all ≢ []
-      → MayEndBy join_meaning AreTooLong (λ _. AreTogetherInReach) result (map length all) → TakeJoined result all made made_then out out_then
+      → MayEndBy join_meaning (ArePast AreTogetherInReach) (λ _. AreTogetherInReach) result (map length all) → TakeJoined result all made made_then out out_then
       → WentAtEnd joining_ends (IsJoinAnswer all) (IsJoinedSoFar all) result (taken_by made out notes) (taken_by made_then out_then notes)
   went-join (Ok x) bytes some reach (none, chunks, well_formed, whole, printed) =
       went_whole (IsJoinAnswer all) (whole_answer all chunks) (taken_by made out notes) (taken_by made_then out_then notes)
@@ -174,7 +174,7 @@ pub runs-joined : {S L X : Type 0} (bytes : S → Option (List ℕ)) (told : S �
     (input made made_then : SeenStream) (grown : SeenFile) (out out_then notes notes_then : SeenStream)
     (result : Result X (Ending Refusal)) (ended : Status) → 0 < length files
     → ((file : S) → IfSome (bytes file) (λ bs. IfSome (told file) (λ size. size ≡ length bs)))
-    → AsksFiles bytes told handed name faults join_meaning AreTooLong (λ _. AreTogetherInReach) result files files_then
+    → AsksFiles bytes told handed name faults join_meaning (ArePast AreTogetherInReach) (λ _. AreTogetherInReach) result files files_then
     → made.faults ≤ made_then.faults → out.faults ≤ out_then.faults → notes.faults ≤ notes_then.faults
     → ((all : List (List ℕ)) → map bytes files ≡ map Some all → TakeJoined result all made.bytes made_then.bytes out.bytes out_then.bytes)
     → SaysEnd joining_ends result ended notes notes_then
@@ -185,7 +185,7 @@ pub runs-joined : {S L X : Type 0} (bytes : S → Option (List ℕ)) (told : S �
     (seen input (map (seen_file bytes told handed faults) files_then) made_then grown out_then notes_then) ended
 runs-joined bytes told handed name faults files files_then input made made_then grown out out_then notes notes_then result ended some sized asks m o n took says made_rose out_rose =
     runs-asked bytes told handed name faults files files_then join_meaning (λ all. Unit {0}) IsJoinAnswer IsJoinedSoFar reads-join
-    joining_ends AreTooLong (λ _. AreTogetherInReach) ends-join input made made_then grown out out_then notes notes_then result ended
+    joining_ends (ArePast AreTogetherInReach) (λ _. AreTogetherInReach) ends-join input made made_then grown out out_then notes notes_then result ended
     sized asks m o n
     (λ all is are supposed within.
     went-join all made.bytes made_then.bytes out.bytes out_then.bytes notes.bytes result are (some_told bytes files all some is) within (took all is))

@@ -5,10 +5,10 @@ use Rattle.record_values.specs.declared.file_totals.Totals.{Totals}
 use Rattle.record_join.specs.Joins.{TakesJoined}
 use Rattle.record_join.specs.declared.joins.JoinEnd.{JoinEnd}
 use Rattle.command_frame.specs.declared.ending.Ending.{Ending}
-use Rattle.command_frame.specs.Endings.{HaveTold, IsAllowedEndOfMany}
+use Rattle.command_frame.specs.Endings.{ArePast, HaveTold, IsAllowedEndOfMany}
 use Rattle.command_frame.proofs.ManyFiles.{shown_at}
 use Rattle.join_command.specs.JoinCommand.{AreTogetherInReach, MayJoin, join_meaning}
-use Rattle.join_command.specs.JoiningEnds.{AreTooLong, TakeJoined, end_of_join}
+use Rattle.join_command.specs.JoiningEnds.{TakeJoined, end_of_join}
 use Rattle.join_command.specs.declared.refusals.Refusal.{Refusal}
 use Rattle.record_join.specs.declared.joins.JoinEnd.TheVariants as join
 use Rattle.record_io.specs.declared.cut.Cut.TheVariants as cut
@@ -37,10 +37,10 @@ took-ended X e why made made_then out all is reach took =
 
 -- and what the files told then
 pub sized-ended : (X : Type 0) (e : JoinEnd) (why : Ending Refusal) (told : List (Option ℕ)) → why ≡ end_of_join e
-    → HaveTold told AreTogetherInReach → IsAllowedEndOfMany {X = X} join_meaning AreTooLong (λ _. AreTogetherInReach) (Err why) told
+    → HaveTold told AreTogetherInReach → IsAllowedEndOfMany {X = X} join_meaning (ArePast AreTogetherInReach) (λ _. AreTogetherInReach) (Err why) told
 sized-ended X e why told is sized =
-    subst (λ (w : Ending Refusal). IsAllowedEndOfMany {X = X} join_meaning AreTooLong (λ _. AreTogetherInReach) (Err w) told) (sym is) (by_end e) where
-      by_end : (e : JoinEnd) → IsAllowedEndOfMany {X = X} join_meaning AreTooLong (λ _. AreTogetherInReach) (Err (end_of_join e)) told
+    subst (λ (w : Ending Refusal). IsAllowedEndOfMany {X = X} join_meaning (ArePast AreTogetherInReach) (λ _. AreTogetherInReach) (Err w) told) (sym is) (by_end e) where
+      by_end : (e : JoinEnd) → IsAllowedEndOfMany {X = X} join_meaning (ArePast AreTogetherInReach) (λ _. AreTogetherInReach) (Err (end_of_join e)) told
       by_end (join.Refused index fault) = sized
       by_end join.Store = refl
       by_end join.Made = (refl, sized)

@@ -19,12 +19,9 @@ use Rattle.join_command.specs.CollectCommand.{collected_file, collected_lines, t
 use Rattle.join_command.specs.declared.stops.Uncollected.{Uncollected}
 use Rattle.join_command.specs.declared.stops.Uncollected.TheVariants as uncollected
 
--- each of the files has so few bytes that it is read, or not
+-- each of the files has so few bytes that it is read
 abbrev pub AreEachInReach : List ℕ → Type 0
 AreEachInReach sizes = AreWithin most_file_bytes sizes
-
-abbrev pub IsOneTooLong : List ℕ → Type 0
-IsOneTooLong sizes = ¬ AreEachInReach sizes
 
 -- the end by which the records of files were not gathered
 abbrev pub end_of_gather : GatherEnd → Ending Uncollected

@@ -18,10 +18,6 @@ use Rattle.record_io.specs.declared.cut.Cut.TheVariants as cut
 use Rattle.command_frame.specs.declared.ending.Ending.TheVariants as end
 use Rattle.command_frame.specs.declared.status.Status.TheVariants as status
 
--- files of these sizes have too many bytes one after another
-abbrev pub AreTooLong : List ℕ → Type 0
-AreTooLong sizes = ¬ AreTogetherInReach sizes
-
 -- the end by which files were not joined
 abbrev pub end_of_join : JoinEnd → Ending Refusal
 end_of_join (join.Refused index fault) = end.At (record { index = index; fault = fault })

@@ -4,11 +4,11 @@ ghost use Rattle.record_io.specs.ManyStores.{AreOnlyAsked, IfAllTell};
 ghost use Rattle.record_io.specs.Seen.{seen_file, seen_stream};
 ghost use Rattle.record_collect.specs.Takings.{AreSized};
 ghost use Rattle.command_frame.specs.AskedFiles.{AsksFiles, KeepsFiles};
-ghost use Rattle.command_frame.specs.Endings.{IsAllowedEndOfMany};
+ghost use Rattle.command_frame.specs.Endings.{ArePast, IsAllowedEndOfMany};
 ghost use Rattle.command_frame.specs.Runs.{Runs};
 ghost use Rattle.command_frame.specs.RunObjects.{Seen};
 ghost use Rattle.join_command.specs.CollectCommand.{collect_meaning};
-ghost use Rattle.join_command.specs.CollectingEnds.{AreEachInReach, IsOneTooLong, TakeCollected, end_of_gather};
+ghost use Rattle.join_command.specs.CollectingEnds.{AreEachInReach, TakeCollected, end_of_gather};
 
 use crate::stops::{Uncollected, end_collecting};
 use crate::writing::put_gathered;
@@ -55,7 +55,7 @@ fn make_collected<R: Threads + Sync, S: Store + Send, M: Sink + Send, O: Sink>(
     requires many { (1 ≤ length files.old) × (length files.old ≤ 16) }
     ensures collected { IfAllTell S.bytes files.old (λ all. TakeCollected result all (M.taken made.old) (M.taken made.new) (O.taken out.old) (O.taken out.new)) }
     ensures files { AsksFiles S.bytes S.told S.handed S.name S.faults
-        collect_meaning IsOneTooLong (λ _. AreEachInReach) result files.old files.new }
+        collect_meaning (ArePast AreEachInReach) (λ _. AreEachInReach) result files.old files.new }
     ensures made { OnlyCounts M.lent M.faults (result ≡ Err (Ending.Cut Cut.Made)) made.old made.new }
     ensures out { OnlyCounts O.lent O.faults (result ≡ Err (Ending.Cut Cut.Out)) out.old out.new }
 {
@@ -82,7 +82,7 @@ fn collect_sized<R: Threads + Sync, S: Store + Send, M: Sink + Send, O: Sink>(
     requires many { (1 ≤ length files.old) × (length files.old ≤ 16) }
     requires sized { AreSized S.told files.old sizes.now }
     ensures collected { IfAllTell S.bytes files.old (λ all. TakeCollected result all (M.taken made.old) (M.taken made.new) (O.taken out.old) (O.taken out.new)) }
-    ensures allowed { IsAllowedEndOfMany collect_meaning IsOneTooLong (λ _. AreEachInReach) result (map (λ file. S.told file) files.new) }
+    ensures allowed { IsAllowedEndOfMany collect_meaning (ArePast AreEachInReach) (λ _. AreEachInReach) result (map (λ file. S.told file) files.new) }
     ensures files { AreOnlyAsked S.bytes S.told S.name S.faults (result ≡ Err (Ending.Cut Cut.File)) files.old files.new }
     ensures made { OnlyCounts M.lent M.faults (result ≡ Err (Ending.Cut Cut.Made)) made.old made.new }
     ensures out { OnlyCounts O.lent O.faults (result ≡ Err (Ending.Cut Cut.Out)) out.old out.new }

@@ -4,11 +4,11 @@ ghost use Rattle.record_io.specs.ManyStores.{AreOnlyAsked, IfAllTell};
 ghost use Rattle.record_io.specs.Seen.{seen_stream, seen_file};
 ghost use Rattle.record_join.specs.Joins.{CanBeJoined};
 ghost use Rattle.command_frame.specs.AskedFiles.{AsksFiles, KeepsFiles};
-ghost use Rattle.command_frame.specs.Endings.{IsAllowedEndOfMany};
+ghost use Rattle.command_frame.specs.Endings.{ArePast, IsAllowedEndOfMany};
 ghost use Rattle.command_frame.specs.Runs.{Runs};
 ghost use Rattle.command_frame.specs.RunObjects.{Seen};
 ghost use Rattle.join_command.specs.JoinCommand.{AreTogetherInReach, MayJoin, join_meaning};
-ghost use Rattle.join_command.specs.JoiningEnds.{AreTooLong, TakeJoined, end_of_join};
+ghost use Rattle.join_command.specs.JoiningEnds.{TakeJoined, end_of_join};
 
 use crate::refusals::{Refusal, end_joining};
 use crate::sizes::are_in_reach;
@@ -49,7 +49,7 @@ fn make_joined<S: Store, M: Sink, O: Sink>(
     requires many { (1 ≤ length files.old) × (length files.old ≤ 64) }
     ensures joined { IfAllTell S.bytes files.old (λ all. TakeJoined result all (M.taken made.old) (M.taken made.new) (O.taken out.old) (O.taken out.new)) }
     ensures files { AsksFiles S.bytes S.told S.handed S.name S.faults
-        join_meaning AreTooLong (λ _. AreTogetherInReach) result files.old files.new }
+        join_meaning (ArePast AreTogetherInReach) (λ _. AreTogetherInReach) result files.old files.new }
     ensures made { OnlyCounts M.lent M.faults (result ≡ Err (Ending.Cut Cut.Made)) made.old made.new }
     ensures out { OnlyCounts O.lent O.faults (result ≡ Err (Ending.Cut Cut.Out)) out.old out.new }
 {
@@ -73,7 +73,7 @@ fn join_sized<S: Store, M: Sink, O: Sink>(
 ) -> Result<(), Ending<Refusal>>
     requires sized { CanBeJoined S.told files.old sizes.now }
     ensures joined { IfAllTell S.bytes files.old (λ all. TakeJoined result all (M.taken made.old) (M.taken made.new) (O.taken out.old) (O.taken out.new)) }
-    ensures allowed { IsAllowedEndOfMany join_meaning AreTooLong (λ _. AreTogetherInReach) result (map (λ file. S.told file) files.new) }
+    ensures allowed { IsAllowedEndOfMany join_meaning (ArePast AreTogetherInReach) (λ _. AreTogetherInReach) result (map (λ file. S.told file) files.new) }
     ensures handed { MayJoin sizes.now (map (λ file. S.handed file) files.old) (map (λ file. S.handed file) files.new) }
     ensures files { AreOnlyAsked S.bytes S.told S.name S.faults (result ≡ Err (Ending.Cut Cut.File)) files.old files.new }
     ensures made { OnlyCounts M.lent M.faults (result ≡ Err (Ending.Cut Cut.Made)) made.old made.new }

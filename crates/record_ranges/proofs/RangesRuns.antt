@@ -1,6 +1,5 @@
 -- How a run of `ranges` ends, by how its work ended.
-use Rattle.std.proofs.Common.{◌≡◌, ◌≢◌, ℕ, ◌+◌, ◌<◌, ◌≤◌, ◌⊎◌, Option, Some, None, Result, Ok, Err, List, [], length, map, take, drop, refl, subst, inl, inr, arith, IfSome}
-use Rattle.std.specs.Prelude.{slice_get}
+use Rattle.std.proofs.Common.{◌≡◌, ◌≢◌, ℕ, ◌<◌, ◌≤◌, Option, Some, Result, Ok, Err, List, [], length, map, take, refl, subst, inl, inr, arith, IfSome}
 use Rattle.std.specs.List.{AllByRecursion}
 use Rattle.record_values.specs.Bytes.{AreBytes}
 use Rattle.record_io.specs.Outside.{Rose}
@@ -11,8 +10,8 @@ use Rattle.command_frame.specs.declared.ending.Ending.{Ending}
 use Rattle.command_frame.specs.declared.status.Status.{Status}
 use Rattle.command_frame.specs.Answers.{noted}
 use Rattle.command_frame.specs.AskedFiles.{AsksFiles}
-use Rattle.command_frame.specs.Endings.{IsAllowedEndOfMany, SaysEnd}
-use Rattle.command_frame.specs.FileAnswers.{limit_text}
+use Rattle.command_frame.specs.Endings.{ArePast, IsAllowedEndOfMany, SaysEnd}
+use Rattle.command_frame.specs.FileAnswers.{AreWithin, limit_text}
 use Rattle.command_frame.specs.Runs.{Runs}
 use Rattle.command_frame.specs.RunObjects.{seen}
 use Rattle.command_frame.specs.RunLeaves.{Breaks}
@@ -21,8 +20,8 @@ use Rattle.command_frame.proofs.FileEnds.{EndsWhole}
 use Rattle.command_frame.proofs.ManyFilesEnds.{MayEndBy, EndsBySizes, ReadsFiles, WentAtEnd, WentButNotes, WentToCut, reads_files, some_told, went_none, went_noted, went_whole}
 use Rattle.command_frame.proofs.TwoStreams.{GoOut-neither}
 use Rattle.show_command.specs.Readings.{refused_text}
-use Rattle.record_ranges.specs.RangesCommand.{AreOneFile, IsRangesAnswer, MayBeRead, MayEndRanges, differ_text, ranges_meaning}
-use Rattle.record_ranges.specs.RangesEnds.{IsOnePast, PrintsOnlyWhole, PrintsFile, StopsBy, range_ends, stop_status, stop_text}
+use Rattle.record_ranges.specs.RangesCommand.{AreOneFile, IsRangesAnswer, MayBeRead, MayEndRanges, differ_text, most_range_bytes, ranges_meaning}
+use Rattle.record_ranges.specs.RangesEnds.{PrintsOnlyWhole, PrintsFile, StopsBy, range_ends, stop_status, stop_text}
 use Rattle.record_ranges.specs.declared.range_ends.RangesStop.{RangesStop}
 use Rattle.record_ranges.proofs.RangesAnswers.{first_of_all, printed, ranges_exists}
 use Rattle.record_ranges.proofs.RangesStores.{of_one}
@@ -52,7 +51,7 @@ stop_other : (w : RangesStop) → stop_status w ≢ status.Ok
 stop_other (stop.Refused fault) is = cc is
 stop_other (stop.Differ first other) is = cc is
 
-ends-ranges : {X : Type 0} → EndsBySizes {X = X} ranges_meaning range_ends IsOnePast StopsBy
+ends-ranges : {X : Type 0} → EndsBySizes {X = X} ranges_meaning range_ends (ArePast (AreWithin most_range_bytes)) StopsBy
 ends-ranges = record {
   done = λ x. refl;
   may_work = λ sizes may. inl (inl (may, inl (refl, refl)));
@@ -83,7 +82,7 @@ module _ (all : List (List ℕ)) (made out out_then notes : Option (List ℕ)) w
   OfFile P = (file : List ℕ) → AllByRecursion (λ other. other ≡ file) all → P file
 
   went-ranges : {X : Type 0} (result : Result X (Ending RangesStop)) → AllByRecursion AreBytes all → all ≢ [] → TellOne all
-      → MayEndBy ranges_meaning IsOnePast StopsBy result (map length all)
+      → MayEndBy ranges_meaning (ArePast (AreWithin most_range_bytes)) StopsBy result (map length all)
       → OfFile (λ file. PrintsFile result file out out_then) → PrintsOnlyWhole result out out_then
       → WentAtEnd range_ends (IsRangesAnswer all) (λ part. part ≡ []) result (taken_by made out notes) (taken_by made out_then notes)
   went-ranges (Ok x) bytes some supposed may took none =
@@ -125,7 +124,7 @@ pub runs-read : {S L X : Type 0} (bytes : S → Option (List ℕ)) (told : S →
     (input made : SeenStream) (grown : SeenFile) (out out_then notes notes_then : SeenStream) (result : Result X (Ending RangesStop)) (ended : Status)
     → 0 < length files
     → ((file : S) → IfSome (bytes file) (λ bs. IfSome (told file) (λ size. size ≡ length bs)))
-    → AsksFiles bytes told handed name faults ranges_meaning IsOnePast StopsBy result files files_then
+    → AsksFiles bytes told handed name faults ranges_meaning (ArePast (AreWithin most_range_bytes)) StopsBy result files files_then
     → out.faults ≤ out_then.faults → notes.faults ≤ notes_then.faults
     → ((file : List ℕ) → AllByRecursion (λ s. bytes s ≡ Some file) files → PrintsFile result file out.bytes out_then.bytes)
     → PrintsOnlyWhole result out.bytes out_then.bytes
@@ -136,13 +135,13 @@ pub runs-read : {S L X : Type 0} (bytes : S → Option (List ℕ)) (told : S →
     (seen input (map (seen_file bytes told handed faults) files_then) made grown out_then notes_then) ended
 runs-read bytes told handed name faults files files_then input made grown out out_then notes notes_then result ended some sized asks o n took printed says out_rose =
     runs-asked bytes told handed name faults files files_then ranges_meaning TellOne IsRangesAnswer (λ all part. part ≡ []) reads-ranges
-    range_ends IsOnePast StopsBy ends-ranges input made made grown out out_then notes notes_then result ended
+    range_ends (ArePast (AreWithin most_range_bytes)) StopsBy ends-ranges input made made grown out out_then notes notes_then result ended
     sized asks (omega arith) o n
     (λ all is are supposed within.
     went-ranges all made.bytes out.bytes out_then.bytes notes.bytes result are (some_told bytes files all some is) supposed within
     (λ file one. took file (of_one bytes files all file is one)) printed)
     says (λ failed. absurd (unmade result asks.allowed failed)) out_rose where
-      unmade : {X : Type 0} (result : Result X (Ending RangesStop)) → IsAllowedEndOfMany ranges_meaning IsOnePast StopsBy result (map told files_then)
+      unmade : {X : Type 0} (result : Result X (Ending RangesStop)) → IsAllowedEndOfMany ranges_meaning (ArePast (AreWithin most_range_bytes)) StopsBy result (map told files_then)
           → result ≡ Err (end.Cut cut.Made) → ⊥
       unmade {X} result allowed failed =
-          cc (subst (λ (r : Result X (Ending RangesStop)). IsAllowedEndOfMany ranges_meaning IsOnePast StopsBy r (map told files_then)) failed allowed).0
+          cc (subst (λ (r : Result X (Ending RangesStop)). IsAllowedEndOfMany ranges_meaning (ArePast (AreWithin most_range_bytes)) StopsBy r (map told files_then)) failed allowed).0

@@ -1,12 +1,12 @@
 -- The sizes that the stores of one file tell.
-use Rattle.std.proofs.Common.{◌≡◌, ◌∙◌, ℕ, zero, suc, ◌<◌, ◌≤◌, ◌⊎◌, Bool, true, false, cond, not, ◌||◌, Option, Some, None, List, [], ◌∷◌, get_or, length, refl, sym, ap, subst, inl, inr, arith}
+use Rattle.command_frame.specs.Endings.{ArePast}
+use Rattle.std.proofs.Common.{◌≡◌, ◌∙◌, ℕ, ◌<◌, ◌≤◌, ◌⊎◌, Bool, true, false, cond, not, Option, Some, None, List, [], ◌∷◌, get_or, length, refl, sym, ap, subst, inl, inr, arith}
 use Rattle.std.specs.Prelude.{◌==◌, nat_lt, slice_get}
 use Rattle.std.specs.List.{AllByRecursion, find, list_any}
 use Rattle.std.proofs.lemmas.Bool.{cases_Bool, eqb-true, eq-eqb}
 use Rattle.command_frame.specs.FileAnswers.{AreWithin}
 use Rattle.command_frame.proofs.AskedFiles.{none_past, one_past}
 use Rattle.record_ranges.specs.RangesCommand.{AreAlike, Differ, MayBeRead, most_range_bytes}
-use Rattle.record_ranges.specs.RangesEnds.{IsOnePast}
 
 -- where none is another than this one, all are this one
 not_found : (b : Bool) (size : ℕ) (rest : Option ℕ) → cond (not b) (Some size) rest ≡ None → (b ≡ true) × (rest ≡ None)
@@ -47,7 +47,7 @@ alike_or_differ size first other sizes h (there, found) =
     cc (sym found ∙ none)
 
 -- what there is of sizes
-pub sizes_judged : (sizes : List ℕ) → 0 < length sizes → IsOnePast sizes
+pub sizes_judged : (sizes : List ℕ) → 0 < length sizes → ArePast (AreWithin most_range_bytes) sizes
     ⊎ (AreWithin most_range_bytes sizes × (first : ℕ) × (other : ℕ) × Differ sizes first other)
     ⊎ MayBeRead sizes
 sizes_judged [] some = absurd (omega (arith, some))
@@ -58,7 +58,7 @@ sizes_judged (first ∷ sizes) some = elim (cases_Bool (list_any (λ size. nat_l
       of_others within (find (λ size. not (size == first)) (first ∷ sizes)) refl
 ] where
   of_others : AreWithin most_range_bytes (first ∷ sizes) → (found : Option ℕ) → find (λ size. not (size == first)) (first ∷ sizes) ≡ found
-      → IsOnePast (first ∷ sizes)
+      → ArePast (AreWithin most_range_bytes) (first ∷ sizes)
       ⊎ (AreWithin most_range_bytes (first ∷ sizes) × (one : ℕ) × (other : ℕ) × Differ (first ∷ sizes) one other)
       ⊎ MayBeRead (first ∷ sizes)
   of_others within None is =

@@ -5,15 +5,16 @@ use Rattle.std.specs.Result.{IfOk}
 use Rattle.chunk_reader.specs.Faults.{IsFault}
 use Rattle.chunk_reader.specs.declared.reasons.Fault.{Fault}
 use Rattle.chunk_reader.specs.declared.reasons.ReadEnd.{ReadEnd}
-use Rattle.command_frame.specs.Endings.{HaveTold, IsAllowedEndOfMany}
+use Rattle.command_frame.specs.Endings.{ArePast, HaveTold, IsAllowedEndOfMany}
 use Rattle.command_frame.specs.declared.ending.Ending.{Ending}
-use Rattle.record_ranges.specs.RangesCommand.{IsTextOfFile, MayBeRead, ranges_meaning}
-use Rattle.record_ranges.specs.RangesEnds.{IsOnePast, PrintsOnlyWhole, IsReadIn, PrintsFile, StopsBy, all_texts, end_of_read}
+use Rattle.record_ranges.specs.RangesCommand.{IsTextOfFile, MayBeRead, most_range_bytes, ranges_meaning}
+use Rattle.record_ranges.specs.RangesEnds.{PrintsOnlyWhole, IsReadIn, PrintsFile, StopsBy, all_texts, end_of_read}
 use Rattle.record_ranges.specs.declared.range_ends.RangesStop.{RangesStop}
 use Rattle.record_ranges.specs.declared.stretches.Stretch.{Stretch}
 use Rattle.chunk_reader.specs.declared.reasons.ReadEnd.TheVariants as read
 use Rattle.record_io.specs.declared.cut.Cut.TheVariants as cut
 use Rattle.command_frame.specs.declared.ending.Ending.TheVariants as end
+use Rattle.command_frame.specs.FileAnswers.{AreWithin}
 
 -- stores of which the bytes stay show the same file
 pub still_one : {S : Type 0} (bytes : S → Option (List ℕ)) (before after : List S) (file : List ℕ) → map bytes after ≡ map bytes before
@@ -37,9 +38,9 @@ read-in (Err read.Memory) file P holds text refused = tt
 -- the work ended as the file was not read
 module _ (e : ReadEnd) (why : Ending RangesStop) (is : why ≡ end_of_read e) where
   pub unread-allowed : (told : List (Option ℕ)) → HaveTold told MayBeRead
-      → IsAllowedEndOfMany {X = Unit {0}} ranges_meaning IsOnePast StopsBy (Err why) told
-  unread-allowed told ready = subst (λ (w : Ending RangesStop). IsAllowedEndOfMany {X = Unit {0}} ranges_meaning IsOnePast StopsBy (Err w) told) (sym is) (by_end e) where
-    by_end : (e : ReadEnd) → IsAllowedEndOfMany {X = Unit {0}} ranges_meaning IsOnePast StopsBy (Err (end_of_read e)) told
+      → IsAllowedEndOfMany {X = Unit {0}} ranges_meaning (ArePast (AreWithin most_range_bytes)) StopsBy (Err why) told
+  unread-allowed told ready = subst (λ (w : Ending RangesStop). IsAllowedEndOfMany {X = Unit {0}} ranges_meaning (ArePast (AreWithin most_range_bytes)) StopsBy (Err w) told) (sym is) (by_end e) where
+    by_end : (e : ReadEnd) → IsAllowedEndOfMany {X = Unit {0}} ranges_meaning (ArePast (AreWithin most_range_bytes)) StopsBy (Err (end_of_read e)) told
     by_end (read.Refused fault) = ready
     by_end read.Store = refl
     by_end read.Memory = (refl, ready)

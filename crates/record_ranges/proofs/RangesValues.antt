@@ -1,9 +1,9 @@
 -- The answers of `ranges`, judged by hand, computed from the definitions.
+use Rattle.command_frame.specs.Endings.{ArePast}
 use Rattle.std.proofs.Common.{◌≡◌, [], ◌∷◌, codes, refl, arith}
 use Rattle.std.specs.Fmt.{digits}
 use Rattle.command_frame.specs.FileAnswers.{AreWithin}
 use Rattle.record_ranges.specs.RangesCommand.{AreAlike, Differ, differ_text, most_range_bytes}
-use Rattle.record_ranges.specs.RangesEnds.{IsOnePast}
 
 -- sizes that differ: the first, and the first that is another
 second_differs : Differ (196 ∷ 112 ∷ []) 196 112
@@ -20,7 +20,7 @@ differ_line = refl
 at_limit : AreWithin most_range_bytes (112 ∷ 268435456 ∷ [])
 at_limit = (omega arith, (omega arith, tt))
 
-past_limit : IsOnePast (112 ∷ 268435457 ∷ [])
+past_limit : ArePast (AreWithin most_range_bytes) (112 ∷ 268435457 ∷ [])
 past_limit = λ within. omega (arith, within.1.0)
 
 alike : AreAlike 112 (112 ∷ 112 ∷ [])

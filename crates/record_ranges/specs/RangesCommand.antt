@@ -1,5 +1,5 @@
 -- Promise. What `ranges` prints, says and ends with. Own.
-use Rattle.std.specs.Prelude.{◌≡◌, ℕ, ◌^◌, ◌<◌, ◌≤◌, ◌⊎◌, not, ◌==◌, true, false, Some, List, [], ◌∷◌, ◌++◌, decimal, length, map, slice_get}
+use Rattle.std.specs.Prelude.{◌≡◌, ℕ, ◌^◌, ◌<◌, ◌≤◌, ◌⊎◌, not, ◌==◌, true, false, Some, List, ◌∷◌, ◌++◌, decimal, length, map, slice_get}
 use Rattle.std.specs.List.{AllByRecursion, find, flat_map}
 use lib.Chars.{codes}
 use Rattle.record_io.specs.Puts.{Out, puts_to}

@@ -6,7 +6,7 @@ use Rattle.record_io.specs.Outside.{Takes, TakesShort}
 use Rattle.chunk_reader.specs.Faults.{IsFault}
 use Rattle.chunk_reader.specs.declared.reasons.ReadEnd.{ReadEnd}
 use Rattle.command_frame.specs.Answers.{line}
-use Rattle.command_frame.specs.Endings.{Endings, HaveTold}
+use Rattle.command_frame.specs.Endings.{ArePast, Endings, HaveTold}
 use Rattle.command_frame.specs.FileAnswers.{AreWithin}
 use Rattle.command_frame.specs.declared.ending.Ending.{Ending}
 use Rattle.command_frame.specs.declared.status.Status.{Status}
@@ -22,10 +22,6 @@ use Rattle.command_frame.specs.declared.ending.Ending.TheVariants as end
 use Rattle.command_frame.specs.declared.status.Status.TheVariants as status
 use Rattle.record_ranges.specs.declared.file_sizes.SizesEnd.TheVariants as sizes_end
 use Rattle.record_ranges.specs.declared.range_ends.RangesStop.TheVariants as stop
-
--- one of these sizes is of a file that has more bytes than are read
-abbrev pub IsOnePast : List ℕ → Type 0
-IsOnePast sizes = ¬ AreWithin most_range_bytes sizes
 
 -- the line that tells why the file is not read, and the status
 abbrev pub stop_text : RangesStop → List ℕ
@@ -49,7 +45,7 @@ end_of_read read.Memory = end.Cut cut.Memory
 -- the size of a file by those that its stores told, or why it isn't read
 abbrev pub IsSizeBy : Result ℕ SizesEnd → List ℕ → Type 0
 IsSizeBy (Ok size) sizes = AreAlike size sizes
-IsSizeBy (Err sizes_end.Limit) sizes = IsOnePast sizes
+IsSizeBy (Err sizes_end.Limit) sizes = ArePast (AreWithin most_range_bytes) sizes
 IsSizeBy (Err (sizes_end.Differ first other)) sizes = AreWithin most_range_bytes sizes × Differ sizes first other
 
 -- the sizes of its stores by which it isn't read: those of a file that is judged, where it is refused, and such as differ

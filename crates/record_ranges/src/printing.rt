@@ -5,12 +5,13 @@ ghost use Rattle.record_io.specs.Seen.{seen_stream, seen_file};
 ghost use Rattle.record_ranges.specs.Ranges.{even_cuts};
 ghost use Rattle.record_ranges.specs.Reads.{IfAllTellSame};
 ghost use Rattle.command_frame.specs.AskedFiles.{AsksFiles, KeepsFiles};
-ghost use Rattle.command_frame.specs.Endings.{IsAllowedEndOfMany};
+ghost use Rattle.command_frame.specs.Endings.{ArePast, IsAllowedEndOfMany};
 ghost use Rattle.command_frame.specs.Runs.{Runs};
 ghost use Rattle.command_frame.specs.RunObjects.{Seen};
-ghost use Rattle.record_ranges.specs.RangesCommand.{ranges_meaning};
+ghost use Rattle.record_ranges.specs.RangesCommand.{most_range_bytes, ranges_meaning};
 ghost use Rattle.record_ranges.specs.Stretches.{AreRangesIn};
-ghost use Rattle.record_ranges.specs.RangesEnds.{AreOfOneFile, IsOnePast, IsReadIn, PrintsOne, StopsBy, end_of_read, part_lines};
+ghost use Rattle.record_ranges.specs.RangesEnds.{AreOfOneFile, IsReadIn, PrintsOne, StopsBy, end_of_read, part_lines};
+ghost use Rattle.command_frame.specs.FileAnswers.{AreWithin};
 
 use crate::cut_places::Cuts;
 use crate::file_sizes::{SizesEnd, size_by};
@@ -60,7 +61,7 @@ fn print_file<R: Threads + Sync, S: Store + Send, O: Sink>(
     requires parts { (length files.old ≡ parts) × (1 ≤ parts) × (parts ≤ 16) }
     ensures prints { PrintsOne S.bytes files.old result (O.taken out.old) (O.taken out.new) }
     ensures files { AsksFiles S.bytes S.told S.handed S.name S.faults
-        ranges_meaning IsOnePast StopsBy result files.old files.new }
+        ranges_meaning (ArePast (AreWithin most_range_bytes)) StopsBy result files.old files.new }
     ensures out { OnlyCounts O.lent O.faults (result ≡ Err (Ending.Cut Cut.Out)) out.old out.new }
 {
     let mut room = [0; MOST_PARTS];
@@ -90,7 +91,7 @@ fn print_sized<R: Threads + Sync, S: Store + Send, O: Sink>(
     requires parts { (length files.old ≡ parts) × (1 ≤ parts) × (parts ≤ 16) }
     requires one { AreOfOneFile S.bytes S.told size files.old }
     ensures prints { PrintsOne S.bytes files.old result (O.taken out.old) (O.taken out.new) }
-    ensures allowed { IsAllowedEndOfMany ranges_meaning IsOnePast StopsBy result (map (λ file. S.told file) files.new) }
+    ensures allowed { IsAllowedEndOfMany ranges_meaning (ArePast (AreWithin most_range_bytes)) StopsBy result (map (λ file. S.told file) files.new) }
     ensures files { AreOnlyAsked S.bytes S.told S.name S.faults (result ≡ Err (Ending.Cut Cut.File)) files.old files.new }
     ensures out { OnlyCounts O.lent O.faults (result ≡ Err (Ending.Cut Cut.Out)) out.old out.new }
 {

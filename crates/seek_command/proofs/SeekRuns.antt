@@ -24,17 +24,17 @@ unfound_other (unfound.Refused fault) is = cc is
 
 unfound_may_end : (words : SeekWords) (why : Unfound) → MayEndInReach (seek_meaning words) (unfound_status why) (unfound_text why)
 unfound_may_end words unfound.Nothing = λ sizes reach. inr (reach, refl, refl)
-unfound_may_end words (unfound.Refused fault) = λ sizes reach. inl (inr (inl (reach, fault, refl, refl)))
+unfound_may_end words (unfound.Refused fault) = λ sizes reach. inl (inl (reach, inr (fault, refl, refl)))
 
 pub seek_reads : (words : SeekWords) → IsReading {X = Unit {0}} (seek_meaning words) seek_ends (IsSeekAnswer words) IsSeekSoFar
 seek_reads words = record {
   one = seek_reads_file words;
   by = record {
-    too_long = λ sizes long. inl (inr (inr (long, refl, refl)));
+    too_long = λ sizes long. inl (inr (long, refl, refl));
     whole = unfound_whole words;
     other = unfound_other;
   };
-  done = λ x. (λ sizes reach. inl (inl (reach, refl, refl)), (tt, λ before after. tt));
+  done = λ x. (λ sizes reach. inl (inl (reach, inl (refl, refl))), (tt, λ before after. tt));
   at = unfound_may_end words;
   unmade = refl;
   says_nothing = λ text is. is;

@@ -43,12 +43,12 @@ strict_reads : (m : Meaning) (P : List ℕ → Answer → Type 0) (Q : (before a
 strict_reads m P Q one may_end unmade says_nothing may_say = record {
   one = one;
   by = record {
-    too_long = λ sizes long. may_end sizes status.Limit _ (inr (inr (long, refl, refl)));
+    too_long = λ sizes long. may_end sizes status.Limit _ (inr (long, refl, refl));
     whole = λ fault. (tt, λ before after. tt);
     other = λ fault e. cc e;
   };
-  done = λ x. (λ sizes reach. may_end sizes status.Ok [] (inl (reach, refl, refl)), (tt, λ before after. tt));
-  at = λ fault sizes reach. may_end sizes status.Refused (refused_text fault) (inr (inl (reach, fault, refl, refl)));
+  done = λ x. (λ sizes reach. may_end sizes status.Ok [] (inl (reach, inl (refl, refl))), (tt, λ before after. tt));
+  at = λ fault sizes reach. may_end sizes status.Refused (refused_text fault) (inl (reach, inr (fault, refl, refl)));
   unmade = unmade;
   says_nothing = says_nothing;
   may_say = may_say;

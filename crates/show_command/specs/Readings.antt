@@ -1,5 +1,5 @@
 -- Promise. What strict reading of a record file takes, prints and says. Own.
-use Rattle.std.specs.Prelude.{◌≡◌, ℕ, ◌+◌, ◌≤◌, ◌⊎◌, Bool, false, Option, Some, None, List, [], ◌∷◌, ◌++◌, decimal, if◌then◌else◌}
+use Rattle.std.specs.Prelude.{◌≡◌, ℕ, ◌+◌, ◌≤◌, Bool, false, Option, Some, None, List, [], ◌∷◌, ◌++◌, decimal, if◌then◌else◌}
 use lib.Chars.{codes}
 use Rattle.hex.specs.Hex.{encode_lower}
 use Rattle.chunk_reader.specs.declared.reasons.Fault.{Fault}
@@ -7,7 +7,7 @@ use Rattle.chunk_reader.specs.Names.{name_of}
 use Rattle.show_command.specs.declared.show_words.RecordForm.{RecordForm}
 use Rattle.command_frame.specs.declared.status.Status.{Status}
 use Rattle.command_frame.specs.Answers.{line}
-use Rattle.command_frame.specs.FileAnswers.{IsInReach, IsTooLong, limit_text}
+use Rattle.command_frame.specs.FileAnswers.{IsInReach, IsTooLong, MayEndBySizes}
 use Rattle.command_frame.specs.declared.status.Status.TheVariants as status
 
 -- what tells a file before its fault: nothing where one alone is read, and of one of several its number from 0
@@ -48,7 +48,5 @@ MayTakeOnce sizes before after = ⊥
 
 -- how strict reading of a file of such a size may end, whatever it holds: done, with any fault, or as the file is too long
 abbrev pub MayEndReading : List ℕ → Status → List ℕ → Type 0
-MayEndReading sizes ended text =
-    (IsInReach sizes × (ended ≡ status.Ok) × (text ≡ []))
-    ⊎ (IsInReach sizes × (fault : Fault) × (ended ≡ status.Refused) × (text ≡ refused_text fault))
-    ⊎ (IsTooLong sizes × (ended ≡ status.Limit) × (text ≡ limit_text))
+MayEndReading =
+    MayEndBySizes IsTooLong IsInReach (λ ended text. (fault : Fault) × (ended ≡ status.Refused) × (text ≡ refused_text fault))
