@@ -81,22 +81,19 @@ impl<'a> Source for MeetingInput<'a> {
     }
 }
 
-/// Lines for four windows of four workers: 16 of one byte, twice 8 of 200,000 more, and one of one byte.
+/// Lines of which six fill a window of several workers, and 16 one that is taken while another is put: 26, for three windows.
 fn lines(alloc: Global) -> Result<Vec<u8>, AllocError> {
-    let more = vec![in alloc; b'a'; 200_000]?;
+    let line = vec![in alloc; b'a'; 262_000]?;
     let mut lines = Vec::new(alloc);
-    for i in 0..33 {
-        lines.push(b'a')?;
-        if 16 <= i && i < 32 {
-            lines.extend_from_slice(&more)?;
-        }
+    for _ in 0..26 {
+        lines.extend_from_slice(&line)?;
         lines.push(b'\n')?;
     }
     Ok(lines)
 }
 
-/// Writes the lines, each in a chunk. The sink with the second window, which begins behind 16 chunks of 44 bytes, and the input
-/// at its end, which the fourth window takes, meet.
+/// Writes the lines, each in a chunk. The sink with its first put, which is of the first window, and the input at its end, which
+/// the third window takes, meet.
 fn write_lines<R: Threads + Sync>(
     threads: &R,
     rt: &HostRuntime,
@@ -106,7 +103,7 @@ fn write_lines<R: Threads + Sync>(
         input: SureInput::new(lines(rt.alloc())?, Vec::new(rt.alloc())),
         guest: Guest::new(meeting, FEED),
     };
-    let mut made = MeetingSink::new(rt.alloc(), meeting, 768)?;
+    let mut made = MeetingSink::new(rt.alloc(), meeting, 0)?;
     let mut files: [MeetingStore; 0] = [];
     run_line(
         threads,
@@ -119,7 +116,7 @@ fn write_lines<R: Threads + Sync>(
 }
 
 #[test]
-fn write_overlaps_the_windows_of_four_workers(rt: HostRuntime) -> Result<(), Fail> {
+fn write_overlaps_three_windows(rt: HostRuntime) -> Result<(), Fail> {
     let meeting = Meeting::of(SINK | FEED);
     assert_eq!(rt; write_lines(&rt, &rt, &meeting)?, Status::Ok);
     assert_eq!(rt; meeting.gave_up(), 0);

@@ -1,12 +1,12 @@
 -- What a feed of lists of records has left.
-use Rattle.std.proofs.Common.{◌≡◌, ◌∙◌, ℕ, zero, suc, ◌+◌, ◌^◌, ◌≤◌, Some, List, [], ◌∷◌, ◌++◌, All, length, drop, refl, ap, subst, arith}
+use Rattle.std.proofs.Common.{◌≡◌, ◌∙◌, ℕ, zero, suc, ◌+◌, ◌^◌, ◌≤◌, Some, List, [], ◌∷◌, ◌++◌, All, length, drop, ap, subst, arith}
 use Rattle.std.specs.List.{AllByRecursion, flat_map, slice_get}
 use Rattle.std.proofs.lemmas.List.Elements.{All-from_recursion, recursion_from_All}
 use Rattle.std.proofs.lemmas.List.{at_drop_more}
 use Rattle.std.proofs.lemmas.List.Sums.{sum_by-cons}
 use Rattle.std.proofs.lemmas.Option.{get_or_from_slice_get, slice_get_within}
 use Rattle.simple_chunk.specs.Costs.{cost, cost_of}
-use Rattle.record_writer.specs.FeedSteps.{feed_bound, left_of}
+use Rattle.record_writer.specs.FeedSteps.{feed_bound}
 
 -- the bound of a list of records is no more than they cost
 pub feed_bound-cost : (records : List (List ℕ)) → feed_bound records ≤ cost_of records
@@ -23,17 +23,6 @@ drop-next records i next at =
 pub short_next : (records : List (List ℕ)) (i : ℕ) (next : List ℕ) → All (λ r. length r ≤ 2 ^ 24) records → slice_get records i ≡ Some next → length next ≤ 2 ^ 24
 short_next records i next short at =
     subst (λ (r : List ℕ). length r ≤ 2 ^ 24) (get_or_from_slice_get records i next next at) (short i next (slice_get_within records i next at))
-
--- one record more lowers the bound by its length and 1
-pub feed_bound-next : (r : List ℕ) (records : List (List ℕ)) → feed_bound (r ∷ records) ≡ length r + 1 + feed_bound records
-feed_bound-next r records = omega (arith, sum_by-cons length r records)
-
--- past all records of the first list, those of the others are left
-pub left_behind : (list : List (List ℕ)) (lists : List (List (List ℕ))) (at : ℕ) → length list ≤ at → at ≤ length list → left_of (list ∷ lists) at ≡ left_of lists 0
-left_behind [] lists zero over within = refl
-left_behind [] lists (suc at) over within = absurd (omega arith)
-left_behind (r ∷ list) lists zero over within = absurd (omega arith)
-left_behind (r ∷ list) lists (suc at) over within = left_behind list lists at (omega arith) (omega arith)
 
 -- a record of the first list is one of all
 pub in_first : (list : List (List ℕ)) (lists : List (List (List ℕ))) (i : ℕ) (r : List ℕ) → slice_get list i ≡ Some r

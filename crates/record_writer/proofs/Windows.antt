@@ -1,9 +1,9 @@
 -- Groups that are taken of a feed, and then put together.
-use Rattle.std.proofs.Common.{◌≡◌, ◌∙◌, ℕ, ◌+◌, ◌<◌, ◌≤◌, Bool, Option, Some, None, Result, Ok, Err, List, [], ◌∷◌, ◌++◌, length, take, drop, get_or, slice_set, IfSome, OnOk, refl, sym, ap, subst, inl, inr, append_assoc, add-one, arith, rules}
+use Rattle.std.proofs.Common.{◌≡◌, ◌∙◌, ℕ, ◌+◌, ◌<◌, ◌≤◌, Bool, false, Option, Some, None, Result, Ok, Err, List, [], ◌∷◌, ◌++◌, length, take, drop, get_or, slice_set, IfSome, OnOk, refl, sym, ap, subst, inl, inr, append_assoc, add-one, arith, rules}
 use Rattle.std.proofs.Math.Seq.{take-suc, map-set_same}
 use Rattle.std.proofs.lemmas.Option.{none-some}
 use Rattle.std.proofs.lemmas.Result.{IfOk-at_ok}
-use Rattle.std.proofs.lemmas.List.{append-nil, get_or-map, get_or-take, length-map, length-take-le, map-append, take-append-drop, take-map}
+use Rattle.std.proofs.lemmas.List.{append-nil, ext_get_or, get_or-map, get_or-take, length-map, length-take-le, map-append, take-append-drop, take-map}
 use Rattle.record_io.specs.Outside.{Rose}
 use Rattle.record_io.specs.Calls.{OnlyCounts}
 use Rattle.chunk_header.specs.Chunks.{ChunkValue}
@@ -60,6 +60,40 @@ groups-kept chunks count groups i chunk other of is same =
     ∙ ap (take count) (map-set_same records chunks i other chunk (same ∙ ap records is))
     ∙ take-map records count chunks
     ∙ of
+
+-- or with other chunks, each of the same group
+pub groups-each : (old new : List SimpleValue) → length new ≡ length old
+    → ((i : ℕ) (d : SimpleValue) → i < length old → (get_or new i d).records ≡ (get_or old i d).records) → groups_of new ≡ groups_of old
+groups-each old new same each =
+    let records : SimpleValue → List (List ℕ) = λ c. c.records in
+    let none : SimpleValue = record { records = []; encoded = false } in
+    ext_get_or [] (groups_of new) (groups_of old) (length-map new records ∙ same ∙ sym (length-map old records))
+    (λ i within.
+    let below : i < length old = omega (arith, within, same, length-map new records) in
+    get_or-map records new i none [] (omega (arith, below, same))
+    ∙ each i none below
+    ∙ sym (get_or-map records old i none [] below))
+
+-- of which there are as many then
+pub length-same_groups : (old new : List SimpleValue) → groups_of new ≡ groups_of old → length new ≡ length old
+length-same_groups old new same =
+    let records : SimpleValue → List (List ℕ) = λ c. c.records in
+    omega (arith, ap length same, length-map new records, length-map old records)
+
+-- and the first of them are the same too
+pub groups-taken : (old new : List SimpleValue) (count : ℕ) → groups_of new ≡ groups_of old → groups_of (take count new) ≡ groups_of (take count old)
+groups-taken old new count same =
+    let records : SimpleValue → List (List ℕ) = λ c. c.records in
+    sym (take-map records count new) ∙ ap (take count) same ∙ take-map records count old
+
+-- or others with the same ones behind them
+pub groups-front : (old new rest all : List SimpleValue) → groups_of new ≡ groups_of old → all ≡ old ++ rest → groups_of (new ++ rest) ≡ groups_of all
+groups-front old new rest all same is =
+    let records : SimpleValue → List (List ℕ) = λ c. c.records in
+    map-append records new rest
+    ∙ ap (λ (groups : List (List (List ℕ))). groups ++ groups_of rest) same
+    ∙ sym (map-append records old rest)
+    ∙ sym (ap groups_of is)
 
 -- the chunks of the groups up to one, and that one's behind them
 chunks-next : (groups : List (List (List ℕ))) (i : ℕ) (group : List (List ℕ)) → i < length groups → group ≡ get_or groups i group

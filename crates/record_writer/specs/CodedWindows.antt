@@ -1,5 +1,5 @@
 -- Inside. Windows of groups that a coder codes. Own.
-use Rattle.std.specs.Prelude.{◌≡◌, ℕ, ◌+◌, ◌^◌, ◌<◌, ◌≤◌, Bool, true, false, List, All, length, map}
+use Rattle.std.specs.Prelude.{◌≡◌, ℕ, ◌+◌, ◌^◌, ◌<◌, ◌≤◌, Bool, false, List, All, length, map}
 use Rattle.std.specs.List.{AllByRecursion}
 use Rattle.chunk_header.specs.Chunks.{ChunkValue}
 use Rattle.chunk_header.specs.SimpleChunks.{simple_chunk}
@@ -18,21 +18,11 @@ pub record CodedGroups : Type 0 where
 abbrev pub CodesSimply : (List (List ℕ) → ChunkValue) → Type 0
 CodesSimply chunk_of = (records : List (List ℕ)) → cost_of records ≤ 2 ^ 25 → chunk_of records ≡ simple_chunk records
 
--- groups can be coded and taken: the coder makes simple chunks, and the feed may be asked
-pub record MayCodeAndTake (chunk_of : List (List ℕ) → ChunkValue) (is_going : Bool) : Type 0 where
-  pub codes : CodesSimply chunk_of
-  pub going : is_going ≡ true
-
 -- groups whose chunks can be made: some, not too many, and none too large
 pub record CanBeCoded (groups : List (List (List ℕ))) : Type 0 where
   pub some : 1 ≤ length groups
   pub few : length groups ≤ 2 ^ 32
   pub short : All (λ group. cost_of group ≤ 2 ^ 25) groups
-
--- the chunks of a window's groups are made, which stay
-pub record IsCoded {W : Type 0} (groups_in : W → List (List (List ℕ))) (can_be_put : W → Type 0) (before after : W) : Type 0 where
-  pub ready : can_be_put after
-  pub same : groups_in after ≡ groups_in before
 
 -- these chunks come next, one after another, each with its data's right hash
 pub record AreInOrder (ks : List ChunkValue) (order : Reordering) : Type 0 where

@@ -1,5 +1,6 @@
 -- Inside. What is taken of a feed before it is put. Own.
-use Rattle.std.specs.Prelude.{◌≡◌, ◌≢◌, ℕ, ◌<◌, ◌≤◌, Bool, true, Option, Some, None, Result, Ok, Err, List, [], ◌++◌, map, IfSome}
+use Rattle.std.specs.Prelude.{◌≡◌, ◌≢◌, ℕ, ◌<◌, ◌≤◌, Bool, true, Option, Some, None, Result, Ok, Err, List, [], ◌++◌, map, IfSome, OnOk}
+use Rattle.std.specs.Borrow.{MutBor}
 use Rattle.record_io.specs.Calls.{OnlyCounts}
 use Rattle.meta_chunk.specs.Files.{end_of_chunks}
 use Rattle.simple_chunk.specs.SimpleParts.{SimpleValue}
@@ -60,3 +61,15 @@ pub record HaveNoGroup {W : Type 0} (groups_in : W → List (List (List ℕ))) (
 pub record StandInOrder {W : Type 0} (groups_in : W → List (List (List ℕ))) (can_be_put : W → Type 0) (first last : W) : Type 0 where
   pub ready : can_be_put first
   pub free : groups_in last ≡ []
+
+-- the chunks of a window's groups are made, which stay
+pub record IsCoded {W : Type 0} (groups_in : W → List (List (List ℕ))) (can_be_put : W → Type 0) (before after : W) : Type 0 where
+  pub ready : can_be_put after
+  pub same : groups_in after ≡ groups_in before
+
+-- a function makes the chunks of any window's groups, unless memory is short
+pub record CodesWindows {W E : Type 0} (groups_in : W → List (List (List ℕ))) (can_be_put : W → Type 0)
+    (pre : MutBor W → Type 0) (post : MutBor W → Result (Unit {0}) E → MutBor W → Type 0) : Type 0 where
+  pub accepts : (window : MutBor W) → pre window
+  pub codes : (before after : MutBor W) (result : Result (Unit {0}) E) → post before result after
+      → OnOk result (IsCoded groups_in can_be_put before.now after.now)

@@ -1,18 +1,22 @@
-ghost use Rattle.std.specs.Prelude.{◌≡◌, ◌≤◌, false, [], map, IsErr};
+ghost use Rattle.std.specs.Prelude.{◌≡◌, ◌≤◌, false, [], map, IsErr, OnOk};
 ghost use Rattle.chunk_header.specs.Views.{value_of_chunk};
 ghost use Rattle.ordered_writer.specs.Reorders.{coming};
-ghost use Rattle.record_writer.specs.CodedWindows.{CanBePut};
+ghost use Rattle.record_writer.specs.CodedWindows.{CanBePut, CodesSimply};
 ghost use Rattle.record_writer.specs.MadeFiles.{LaysTo};
+ghost use Rattle.record_writer.specs.Windows.{IsCoded};
 
+use crate::coding::code_in_order;
 use crate::made_file::MadeFile;
 use crate::pace::Pace;
 use crate::window::{MOST_GROUPS, Window};
+use chunk_workers::Coder;
 use ordered_writer::Reorder;
 use record_io::{Failed, Sink};
 use simple_chunk::Records;
 use std::alloc::{AllocError, Global};
 use std::marker::Model;
 use std::mem;
+use std::thread::Threads;
 
 /// With how many groups for each worker the first window is full, whatever they cost, so that the workers begin soon.
 const FIRST_GROUPS: usize = 4;
@@ -33,6 +37,7 @@ const KEPT: u64 = 1 << 23;
 /// Groups whose chunks are made, by so many workers, before they are put. Own.
 #[derive(Drop)]
 pub(crate) struct CodedWindow {
+    alloc: Global,
     workers: u32,
     groups: Vec<Records>,
     /// Groups that were put, whose memory serves again.
@@ -57,19 +62,21 @@ impl Model for CodedWindow {
 
     ghost view = { λ w. record { groups = w.groups.items; coded = is_some w.chunks } };
 
-    ghost invariant = { λ w. (w.workers ≤ 16)
+    ghost invariant = { λ w. (1 ≤ w.workers)
+        × (w.workers ≤ 16)
         × (vec_len w.groups ≤ 2 ^ 32)
         × All (λ group. cost_of group ≤ 2 ^ 25) w.groups.items
         × ForSome w.chunks (AreInOrder (chunks_of_groups w.groups.items)) };
 }
 
 impl CodedWindow {
-    /// A window without a group, for 16 workers at most. It takes no memory.
+    /// A window without a group, for 1 to 16 workers. It takes no memory.
     pub fn new(alloc: Global, workers: u32) -> CodedWindow
-        requires { workers ≤ 16 }
+        requires { (1 ≤ workers) × (workers ≤ 16) }
         ensures { result.groups ≡ [] }
     {
         CodedWindow {
+            alloc,
             workers,
             groups: Vec::new(alloc),
             spares: Vec::new(alloc),
@@ -78,6 +85,22 @@ impl CodedWindow {
             is_first: true,
             chunks: None,
         }
+    }
+
+    /// Makes the chunks of the groups.
+    pub fn code<R: Threads + Sync, C: Coder + Sync>(
+        &mut self,
+        rt: &R,
+        coder: &C,
+    ) -> Result<(), AllocError>
+        requires { CodesSimply (C.chunk_of coder.now) }
+        ensures { OnOk result (IsCoded ⟦<CodedWindow as Window>⟧.groups ⟦<CodedWindow as Window>⟧.ready self.old self.new) }
+    {
+        if !self.groups.is_empty() {
+            let chunks = code_in_order(rt, self.alloc, self.workers, coder, &self.groups)?;
+            self.chunks = Some(chunks);
+        }
+        Ok(())
     }
 
     /// Forgets the groups, and keeps their memory unless it is much.
@@ -138,16 +161,8 @@ impl Window for CodedWindow {
         Ok(())
     }
 
-    fn to_code(&self) -> Option<&[Records]> {
-        if self.groups.is_empty() {
-            None
-        } else {
-            Some(&self.groups)
-        }
-    }
-
-    fn keep(&mut self, chunks: Reorder) {
-        self.chunks = Some(chunks);
+    fn is_to_code(&self) -> bool {
+        !self.groups.is_empty()
     }
 
     fn put<M: Sink>(&mut self, file: &mut MadeFile, made: &mut M) -> Result<(), Failed> {

@@ -1,52 +1,18 @@
 //! Chunks of groups, coded by workers.
-ghost use Rattle.std.specs.Prelude.{◌≡◌, ◌^◌, ◌≤◌, IfOk, map, OnOk};
+ghost use Rattle.std.specs.Prelude.{◌≡◌, ◌^◌, ◌≤◌, IfOk, map};
 ghost use Rattle.chunk_workers.specs.Windows.{paired};
 ghost use Rattle.ordered_writer.specs.Reorders.{HasEachFrom, reordering_from, with_each};
-ghost use Rattle.record_writer.specs.CodedWindows.{AreInOrder, CanBeCoded, CodesSimply, IsCoded};
+ghost use Rattle.record_writer.specs.CodedWindows.{AreInOrder, CanBeCoded, CodesSimply};
+ghost use Rattle.record_writer.specs.MadeFiles.{chunks_of_groups};
 
-use crate::window::Window;
 use chunk_workers::{Coder, Draws, Numbered, encode_window};
 use ordered_writer::Reorder;
 use simple_chunk::Records;
 use std::alloc::{AllocError, Global};
 use std::thread::Threads;
 
-/// Workers that code in threads of their own. Own.
-#[derive(Drop)]
-pub(crate) struct Workers {
-    alloc: Global,
-    count: u32,
-    ghost in_limits: { (1 ≤ count) × (count ≤ 16) },
-}
-
-impl Workers {
-    /// So many.
-    pub fn new(alloc: Global, count: u32) -> Workers
-        requires { (1 ≤ count) × (count ≤ 16) }
-    {
-        Workers { alloc, count }
-    }
-
-    /// Makes the chunks of a window's groups, where they are to be made before they are put.
-    pub fn code<R: Threads + Sync, C: Coder + Sync, W: Window>(
-        &self,
-        rt: &R,
-        coder: &C,
-        window: &mut W,
-    ) -> Result<(), AllocError>
-        requires { CodesSimply (C.chunk_of coder.now) }
-        ensures { OnOk result (IsCoded W.groups W.ready window.old window.new) }
-    {
-        if let Some(groups) = window.to_code() {
-            let chunks = code_in_order(rt, self.alloc, self.count, coder, groups)?;
-            window.keep(chunks);
-        }
-        Ok(())
-    }
-}
-
 /// The chunks of groups, in their order, made by so many workers in threads of their own.
-fn code_in_order<R: Threads + Sync, C: Coder + Sync>(
+pub(crate) fn code_in_order<R: Threads + Sync, C: Coder + Sync>(
     rt: &R,
     alloc: Global,
     workers: u32,
@@ -54,8 +20,9 @@ fn code_in_order<R: Threads + Sync, C: Coder + Sync>(
     groups: &[Records],
 ) -> Result<Reorder, AllocError>
     requires workers { (1 ≤ workers) × (workers ≤ 16) }
+    requires codes { CodesSimply (C.chunk_of coder.now) }
     requires groups { CanBeCoded groups.now }
-    ensures { IfOk result (AreInOrder (map (C.chunk_of coder.now) groups.now)) }
+    ensures { IfOk result (AreInOrder (chunks_of_groups groups.now)) }
 {
     let (draws, seats) = Draws::new(alloc, groups.len() as u64, workers)?;
     let (chunks, seats) = encode_window(rt, alloc, &draws, seats, coder, groups)?;

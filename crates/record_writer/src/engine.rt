@@ -1,13 +1,13 @@
-ghost use Rattle.std.specs.Prelude.{◌≡◌, ◌+◌, ◌^◌, ◌<◌, ◌≤◌, false, [], IfOk, OnOk};
+ghost use Rattle.std.specs.Prelude.{◌≡◌, ◌+◌, ◌^◌, ◌<◌, ◌≤◌, true, false, [], IfOk, OnOk};
 ghost use Rattle.meta_chunk.specs.Files.{totals_of};
 ghost use Rattle.ordered_writer.specs.Writers.{IsBoundaryWithin};
 ghost use Rattle.record_group.specs.Groups.{pads_start, pads_end};
 ghost use Rattle.record_group.specs.Groupings.{groups_from};
 ghost use Rattle.record_writer.specs.Behind.{MayFollow, PutsRecords, WritesBehind};
-ghost use Rattle.record_writer.specs.CodedWindows.{CodesSimply, MayCodeAndTake};
+ghost use Rattle.record_writer.specs.CodedWindows.{CodesSimply};
 ghost use Rattle.record_writer.specs.Ends.{answer_of};
 ghost use Rattle.record_writer.specs.MadeFiles.{chunks_of_groups, reach_of};
-ghost use Rattle.record_writer.specs.Windows.{HasTakenNone, HaveNoGroup};
+ghost use Rattle.record_writer.specs.Windows.{CodesWindows, HasTakenNone, HaveNoGroup};
 ghost use Rattle.record_writer.specs.Written.{chunks_under, file_under, tail_chunks};
 ghost use Rattle.record_writer.specs.OptionLimits.{MayPut};
 ghost use Rattle.record_writer.specs.WriteAnswers.{WritesRecords, tail_under, totals_from};
@@ -21,10 +21,10 @@ use crate::options::WriteOptions;
 use crate::pipeline::Pipeline;
 use crate::simple_window::SimpleWindow;
 use crate::window::Window;
-use chunk_workers::{Coder, SimpleCoder};
+use chunk_workers::Coder;
 use record_group::Pad;
 use record_io::{Failed, Sink, Totals};
-use std::alloc::Global;
+use std::alloc::{AllocError, Global};
 use std::thread::Threads;
 
 /// Why a file of records was not written to the end of its feed. Own.
@@ -74,13 +74,15 @@ impl From<Failed> for WriteEnd {
 /// Where a stop follows the records, the file of these is written too. The totals are of the file. Of what the feed reads as
 /// many bytes are left as it leaves in any case, also after a failure.
 ///
-/// The chunks of groups are put window by window, each in a thread of its own while the next is taken. Where no thread can be
-/// made, that is done here. With several workers the file is written as by `write_coded` with `SimpleCoder`.
+/// The chunks of groups are put window by window, each in a thread of its own while another is taken. Where no thread can be
+/// made, that is done here.
 ///
 /// With one worker the chunks are encoded by the two threads that take and put them. Where one window holds all groups, no
-/// thread is wanted then, and a window of more than 8 MiB is put before more is taken. So what is held at a time are two
-/// windows, one of 8 MiB at most and one of less than 4 MiB but for its last group, in each up to 8 MiB that are kept for the
-/// next chunks; the open group; and the record behind it. No clause says how much is held.
+/// thread is wanted then. With several the chunks of a window are encoded by two threads of their own, while the window before
+/// is put and the one behind is taken. A window of more than 8 MiB is put before more is taken. So what is held at a time are
+/// the window that is put, of 8 MiB at most, and one more, or two with several workers, of less than 4 MiB but for the last
+/// group; in each up to 8 MiB that are kept for the next chunks; the open group; and the record behind it. No clause says what
+/// is at work at a time, or held.
 ///
 /// # Errors
 ///
@@ -164,7 +166,10 @@ pub fn write_coded<R: Threads + Sync, C: Coder + Sync, L: RecordFeed, M: Sink + 
     let mut file = MadeFile::new();
     file.start(made)?;
     let window = CodedWindow::new(alloc, options.workers);
-    write(rt, alloc, options, coder, window, &mut file, feed, made)
+    let code = |window: &mut CodedWindow| -> Result<(), AllocError>
+        requires { CodesSimply (C.chunk_of coder.now) }
+    { window.code(rt, coder) };
+    write(rt, alloc, options, window, &code, &mut file, feed, made)
 }
 
 /// Writes the chunks of the feed's records behind what a file has already, which is no record. The totals are of the file.
@@ -179,32 +184,38 @@ fn write_rest<R: Threads + Sync, L: RecordFeed, M: Sink + Send>(
     requires follows { MayFollow file.old options.now (L.going feed.old) (L.bound feed.old) }
     ensures { WritesBehind L.rest L.origin L.faults M.taken M.lent M.faults options.now file.old result feed.old feed.new made.old made.new }
 {
-    if options.workers > 1 {
-        let window = CodedWindow::new(alloc, options.workers);
-        return write(rt, alloc, options, &SimpleCoder, window, file, feed, made);
-    }
-    let window = SimpleWindow::new(alloc);
-    write(rt, alloc, options, &SimpleCoder, window, file, feed, made)
+    let window = SimpleWindow::new(alloc, options.workers);
+    let code = |window: &mut SimpleWindow| -> Result<(), AllocError> {
+        window.encode(rt);
+        Ok(())
+    };
+    write(rt, alloc, options, window, &code, file, feed, made)
 }
 
-/// As `write_rest`, with a coder and in windows of the kind of this empty one.
-fn write<R: Threads + Sync, C: Coder + Sync, W: Window + Send, L: RecordFeed, M: Sink + Send>(
+/// As `write_rest`, in windows of the kind of this empty one, which are coded so.
+fn write<
+    R: Threads + Sync,
+    W: Window + Send,
+    F: Fn(&mut W) -> Result<(), AllocError> + Sync,
+    L: RecordFeed,
+    M: Sink + Send,
+>(
     rt: &R,
     alloc: Global,
     options: &WriteOptions,
-    coder: &C,
     window: W,
+    code: &F,
     file: &mut MadeFile,
     feed: &mut L,
     made: &mut M,
 ) -> Result<Totals, WriteEnd>
-    requires codes { CodesSimply (C.chunk_of coder.now) }
+    requires codes { CodesWindows W.groups W.ready (F.pre code.now) (F.post code.now) }
     requires empty { W.groups window ≡ [] }
     requires follows { MayFollow file.old options.now (L.going feed.old) (L.bound feed.old) }
     ensures { WritesBehind L.rest L.origin L.faults M.taken M.lent M.faults options.now file.old result feed.old feed.new made.old made.new }
 {
     let mut pipeline = Pipeline::new(alloc, options, window);
-    let stop = put_chunks(rt, coder, file, options, &mut pipeline, feed, made);
+    let stop = put_chunks(rt, code, file, options, &mut pipeline, feed, made);
     // What is held goes out, however the work ended, unless it was cut off before a chunk of records.
     if stop.is_ok() || file.totals().records > 0 {
         file.flush(made)?;
@@ -225,16 +236,22 @@ fn answer(stop: Option<Stop>, totals: Totals) -> Result<Totals, WriteEnd>
 }
 
 /// Puts the chunks of the feed's records with the padding that is wanted, and answers which stop follows the records.
-fn put_chunks<R: Threads + Sync, C: Coder + Sync, W: Window + Send, L: RecordFeed, M: Sink + Send>(
+fn put_chunks<
+    R: Threads + Sync,
+    W: Window + Send,
+    F: Fn(&mut W) -> Result<(), AllocError> + Sync,
+    L: RecordFeed,
+    M: Sink + Send,
+>(
     rt: &R,
-    coder: &C,
+    code: &F,
     file: &mut MadeFile,
     options: &WriteOptions,
     pipeline: &mut Pipeline<W>,
     feed: &mut L,
     made: &mut M,
 ) -> Result<Option<Stop>, CutOff>
-    requires codes { CodesSimply (C.chunk_of coder.now) }
+    requires codes { CodesWindows W.groups W.ready (F.pre code.now) (F.post code.now) }
     requires follows { MayFollow file.old options.now (L.going feed.old) (L.bound feed.old) }
     requires windows { HaveNoGroup W.groups W.ready pipeline.old.next pipeline.old.coming.taken pipeline.old.coming.free }
     requires taker { HasTakenNone pipeline.old.coming.taker options.now }
@@ -243,7 +260,7 @@ fn put_chunks<R: Threads + Sync, C: Coder + Sync, W: Window + Send, L: RecordFee
     ensures behind { OnOk result (file.old.place ≤ file.new.place) }
 {
     file.pad_if(pads_start(options.pad), made)?;
-    let stop = put_groups(rt, coder, file, pipeline, feed, made)?;
+    let stop = put_groups(rt, code, file, pipeline, feed, made)?;
     file.pad_if(pads_end(options.pad), made)?;
     Ok(stop)
 }
@@ -265,15 +282,22 @@ fn pads_end(pad: Pad) -> bool
 /// Puts a chunk for each group of the feed's records, and answers which stop follows them.
 ///
 /// A window is put while the next one is coded and the one behind that is taken.
-fn put_groups<R: Threads + Sync, C: Coder + Sync, W: Window + Send, L: RecordFeed, M: Sink + Send>(
+fn put_groups<
+    R: Threads + Sync,
+    W: Window + Send,
+    F: Fn(&mut W) -> Result<(), AllocError> + Sync,
+    L: RecordFeed,
+    M: Sink + Send,
+>(
     rt: &R,
-    coder: &C,
+    code: &F,
     file: &mut MadeFile,
     pipeline: &mut Pipeline<W>,
     feed: &mut L,
     made: &mut M,
 ) -> Result<Option<Stop>, CutOff>
-    requires work { MayCodeAndTake (C.chunk_of coder.now) (L.going feed.old) }
+    requires codes { CodesWindows W.groups W.ready (F.pre code.now) (F.post code.now) }
+    requires feed_going { L.going feed.old ≡ true }
     requires going { file.old.spent ≡ false }
     requires windows { HaveNoGroup W.groups W.ready pipeline.old.next pipeline.old.coming.taken pipeline.old.coming.free }
     requires in_reach { reach_of file.old.place pipeline.old.coming.taker (L.bound feed.old) ≤ 2 ^ 61 }
@@ -286,12 +310,12 @@ fn put_groups<R: Threads + Sync, C: Coder + Sync, W: Window + Send, L: RecordFee
     let mut part = pipeline.begin(feed);
     let end = loop {
         match part {
-            Ok(FeedPart::Window) => part = pipeline.go_on(rt, coder, file, feed, made)?,
+            Ok(FeedPart::Window) => part = pipeline.go_on(rt, code, file, feed, made)?,
             Ok(FeedPart::All(stop)) => break Ok(stop),
             Err(cut) => break Err(cut),
         }
     };
     // What was taken before the work was cut off is put too.
-    pipeline.finish(rt, coder, file, made)?;
+    pipeline.finish(rt, code, file, made)?;
     end
 }

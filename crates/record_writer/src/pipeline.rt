@@ -1,11 +1,9 @@
 ghost use Rattle.std.specs.Prelude.{◌≡◌, ◌≢◌, ℕ, true, List, [], ◌++◌, Err, IfOk, IsErr, OnOk};
 ghost use Rattle.record_io.specs.Calls.{OnlyCounts};
-ghost use Rattle.record_writer.specs.CodedWindows.{CodesSimply, IsCoded, MayCodeAndTake};
 ghost use Rattle.record_writer.specs.MadeFiles.{LaysTo, MayLay, chunks_of_groups};
-ghost use Rattle.record_writer.specs.Windows.{HasTakenNone, HaveNoGroup, StandInOrder, TakesGroups};
+ghost use Rattle.record_writer.specs.Windows.{CodesWindows, HasTakenNone, HaveNoGroup, IsCoded, StandInOrder, TakesGroups};
 ghost use Rattle.record_writer.specs.OptionLimits.{AreInLimits};
 
-use crate::coding::Workers;
 use crate::cut_off::CutOff;
 use crate::feed::RecordFeed;
 use crate::group_taker::{FeedPart, GroupTaker};
@@ -13,7 +11,6 @@ use crate::made_file::MadeFile;
 use crate::options::WriteOptions;
 use crate::pace::Pace;
 use crate::window::Window;
-use chunk_workers::Coder;
 use record_io::{Failed, Sink};
 use std::alloc::{AllocError, Global};
 use std::mem;
@@ -28,12 +25,11 @@ pub(crate) struct Pipeline<W: Window> {
     pub pace: Pace,
 }
 
-/// The window that is coded next, one to take groups meanwhile, and what codes and takes them. Own.
+/// The window that is coded next, one to take groups meanwhile, and what takes them. Own.
 #[derive(Drop)]
 pub(crate) struct Coming<W: Window> {
     pub taken: W,
     pub free: W,
-    pub workers: Workers,
     pub taker: GroupTaker,
 }
 
@@ -52,7 +48,6 @@ impl<W: Window + Send> Pipeline<W> {
             coming: Coming {
                 taken,
                 free: window,
-                workers: Workers::new(alloc, options.workers),
                 taker: GroupTaker::new(alloc, options),
             },
             pace: Pace::new(),
@@ -79,15 +74,21 @@ impl<W: Window + Send> Pipeline<W> {
     ///
     /// Only where the sink failed, or there was no memory to code. The sink took a front of what was held and the chunks, and
     /// not all where it failed. What was coded and taken is not to be put.
-    pub fn go_on<R: Threads + Sync, C: Coder + Sync, L: RecordFeed, M: Sink + Send>(
+    pub fn go_on<
+        R: Threads + Sync,
+        F: Fn(&mut W) -> Result<(), AllocError> + Sync,
+        L: RecordFeed,
+        M: Sink + Send,
+    >(
         &mut self,
         rt: &R,
-        coder: &C,
+        code: &F,
         file: &mut MadeFile,
         feed: &mut L,
         made: &mut M,
     ) -> Result<Result<FeedPart, CutOff>, CutOff>
-        requires work { MayCodeAndTake (C.chunk_of coder.now) (L.going feed.old) }
+        requires codes { CodesWindows W.groups W.ready (F.pre code.now) (F.post code.now) }
+        requires feed_going { L.going feed.old ≡ true }
         requires may_lay { MayLay file.old (chunks_of_groups (W.groups self.old.next)) }
         requires windows { StandInOrder W.groups W.ready self.old.next self.old.coming.free }
         ensures laid { LaysTo M.taken M.lent M.faults (result ≡ Err CutOff.Made) result file.old
@@ -101,9 +102,9 @@ impl<W: Window + Send> Pipeline<W> {
     {
         let (laid, (coded, part)) = if self.next.is_empty() || self.next.is_large() {
             let laid = self.next.put(file, made);
-            (laid, self.coming.code_and_take(rt, coder, feed, &self.pace))
+            (laid, self.coming.code_and_take(rt, code, feed, &self.pace))
         } else {
-            self.put_beside(rt, coder, file, feed, made)
+            self.put_beside(rt, code, file, feed, made)
         };
         laid?;
         coded?;
@@ -112,10 +113,15 @@ impl<W: Window + Send> Pipeline<W> {
     }
 
     /// Puts the window whose chunks are made while the one behind it is coded and the next one is taken.
-    fn put_beside<R: Threads + Sync, C: Coder + Sync, L: RecordFeed, M: Sink + Send>(
+    fn put_beside<
+        R: Threads + Sync,
+        F: Fn(&mut W) -> Result<(), AllocError> + Sync,
+        L: RecordFeed,
+        M: Sink + Send,
+    >(
         &mut self,
         rt: &R,
-        coder: &C,
+        code: &F,
         file: &mut MadeFile,
         feed: &mut L,
         made: &mut M,
@@ -123,7 +129,8 @@ impl<W: Window + Send> Pipeline<W> {
         Result<(), Failed>,
         (Result<(), AllocError>, Result<FeedPart, CutOff>),
     )
-        requires work { MayCodeAndTake (C.chunk_of coder.now) (L.going feed.old) }
+        requires codes { CodesWindows W.groups W.ready (F.pre code.now) (F.post code.now) }
+        requires feed_going { L.going feed.old ≡ true }
         requires may_lay { MayLay file.old (chunks_of_groups (W.groups self.old.next)) }
         requires windows { StandInOrder W.groups W.ready self.old.next self.old.coming.free }
         ensures laid { LaysTo M.taken M.lent M.faults (IsErr result.0) result.0 file.old file.new
@@ -147,9 +154,10 @@ impl<W: Window + Send> Pipeline<W> {
                 put
             },
             &mut || -> (Result<(), AllocError>, Result<FeedPart, CutOff>)
-                requires work { MayCodeAndTake (C.chunk_of coder.now) (L.going feed.now) }
+                requires codes { CodesWindows W.groups W.ready (F.pre code.now) (F.post code.now) }
+                requires feed_going { L.going feed.now ≡ true }
                 requires free { W.groups coming.now.free ≡ [] }
-            { coming.code_and_take(rt, coder, feed, pace) },
+            { coming.code_and_take(rt, code, feed, pace) },
         )
     }
 
@@ -159,14 +167,12 @@ impl<W: Window + Send> Pipeline<W> {
     ///
     /// Only where the sink failed, or there was no memory to code. The sink took a front of what was held and the chunks, and
     /// not all where it failed.
-    pub fn finish<R: Threads + Sync, C: Coder + Sync, M: Sink + Send>(
-        &mut self,
-        rt: &R,
-        coder: &C,
-        file: &mut MadeFile,
-        made: &mut M,
-    ) -> Result<(), CutOff>
-        requires codes { CodesSimply (C.chunk_of coder.now) }
+    pub fn finish<
+        R: Threads + Sync,
+        F: Fn(&mut W) -> Result<(), AllocError> + Sync,
+        M: Sink + Send,
+    >(&mut self, rt: &R, code: &F, file: &mut MadeFile, made: &mut M) -> Result<(), CutOff>
+        requires codes { CodesWindows W.groups W.ready (F.pre code.now) (F.post code.now) }
         requires may_lay { MayLay file.old (chunks_of_groups (W.groups self.old.next ++ W.groups self.old.coming.taken)) }
         requires ready { W.ready self.old.next }
         ensures laid { LaysTo M.taken M.lent M.faults (result ≡ Err CutOff.Made) result file.old
@@ -174,7 +180,7 @@ impl<W: Window + Send> Pipeline<W> {
             (chunks_of_groups (W.groups self.old.next ++ W.groups self.old.coming.taken)) made.old made.new }
         ensures no_feed { result ≢ Err CutOff.Input }
     {
-        let (put, coded) = self.put_and_code(rt, coder, file, made);
+        let (put, coded) = self.put_and_code(rt, code, file, made);
         put?;
         coded?;
         self.coming.taken.put(file, made)?;
@@ -182,14 +188,18 @@ impl<W: Window + Send> Pipeline<W> {
     }
 
     /// Puts the window whose chunks are made while the one behind it is coded.
-    fn put_and_code<R: Threads + Sync, C: Coder + Sync, M: Sink + Send>(
+    fn put_and_code<
+        R: Threads + Sync,
+        F: Fn(&mut W) -> Result<(), AllocError> + Sync,
+        M: Sink + Send,
+    >(
         &mut self,
         rt: &R,
-        coder: &C,
+        code: &F,
         file: &mut MadeFile,
         made: &mut M,
     ) -> (Result<(), Failed>, Result<(), AllocError>)
-        requires codes { CodesSimply (C.chunk_of coder.now) }
+        requires codes { CodesWindows W.groups W.ready (F.pre code.now) (F.post code.now) }
         requires may_lay { MayLay file.old (chunks_of_groups (W.groups self.old.next)) }
         requires ready { W.ready self.old.next }
         ensures laid { LaysTo M.taken M.lent M.faults (IsErr result.0) result.0 file.old file.new
@@ -201,16 +211,16 @@ impl<W: Window + Send> Pipeline<W> {
             coming,
             ..
         } = self;
-        if window.is_empty() || coming.taken.to_code().is_none() {
+        if window.is_empty() || !coming.taken.is_to_code() {
             let put = window.put(file, made);
-            return (put, coming.code(rt, coder));
+            return (put, code_window(code, &mut coming.taken));
         }
         join_mut(
             rt,
             &mut || window.put(file, made),
             &mut || -> Result<(), AllocError>
-                requires codes { CodesSimply (C.chunk_of coder.now) }
-            { coming.code(rt, coder) },
+                requires codes { CodesWindows W.groups W.ready (F.pre code.now) (F.post code.now) }
+            { code_window(code, &mut coming.taken) },
         )
     }
 
@@ -225,7 +235,7 @@ impl<W: Window + Send> Pipeline<W> {
     {
         mem::swap(&mut self.next, &mut self.coming.taken);
         mem::swap(&mut self.coming.taken, &mut self.coming.free);
-        if self.next.is_empty() && self.coming.taken.to_code().is_none() {
+        if self.next.is_empty() && !self.coming.taken.is_to_code() {
             mem::swap(&mut self.next, &mut self.coming.taken);
         }
     }
@@ -233,49 +243,37 @@ impl<W: Window + Send> Pipeline<W> {
 
 impl<W: Window + Send> Coming<W> {
     /// Codes the window that was taken while the next one is taken.
-    fn code_and_take<R: Threads + Sync, C: Coder + Sync, L: RecordFeed>(
+    fn code_and_take<
+        R: Threads + Sync,
+        F: Fn(&mut W) -> Result<(), AllocError> + Sync,
+        L: RecordFeed,
+    >(
         &mut self,
         rt: &R,
-        coder: &C,
+        code: &F,
         feed: &mut L,
         pace: &Pace,
     ) -> (Result<(), AllocError>, Result<FeedPart, CutOff>)
-        requires work { MayCodeAndTake (C.chunk_of coder.now) (L.going feed.old) }
+        requires codes { CodesWindows W.groups W.ready (F.pre code.now) (F.post code.now) }
+        requires feed_going { L.going feed.old ≡ true }
         requires free { W.groups self.old.free ≡ [] }
         ensures coded { OnOk result.0 (IsCoded W.groups W.ready self.old.taken self.new.taken) }
         ensures taken { TakesGroups L.rest L.bound L.going L.origin L.faults feed.old feed.new self.old.taker self.new.taker (W.groups self.new.free) result.1 }
     {
-        if self.taken.to_code().is_none() {
+        if !self.taken.is_to_code() {
             return (Ok(()), self.take(feed, pace));
         }
-        let Coming {
-            taken,
-            free,
-            workers,
-            taker,
-        } = self;
+        let Coming { taken, free, taker } = self;
         join_mut(
             rt,
             &mut || -> Result<(), AllocError>
-                requires codes { CodesSimply (C.chunk_of coder.now) }
-            { workers.code(rt, coder, taken) },
+                requires codes { CodesWindows W.groups W.ready (F.pre code.now) (F.post code.now) }
+            { code_window(code, taken) },
             &mut || -> Result<FeedPart, CutOff>
                 requires feed_going { L.going feed.now ≡ true }
                 requires free { W.groups free.now ≡ [] }
             { taker.take_groups(feed, free, pace) },
         )
-    }
-
-    /// Codes the window that was taken.
-    fn code<R: Threads + Sync, C: Coder + Sync>(
-        &mut self,
-        rt: &R,
-        coder: &C,
-    ) -> Result<(), AllocError>
-        requires { CodesSimply (C.chunk_of coder.now) }
-        ensures coded { OnOk result (IsCoded W.groups W.ready self.old.taken self.new.taken) }
-    {
-        self.workers.code(rt, coder, &mut self.taken)
     }
 
     /// Takes the next window.
@@ -287,4 +285,15 @@ impl<W: Window + Send> Coming<W> {
     {
         self.taker.take_groups(feed, &mut self.free, pace)
     }
+}
+
+/// Makes the chunks of a window's groups.
+fn code_window<W: Window, F: Fn(&mut W) -> Result<(), AllocError>>(
+    code: &F,
+    window: &mut W,
+) -> Result<(), AllocError>
+    requires { CodesWindows W.groups W.ready (F.pre code.now) (F.post code.now) }
+    ensures { OnOk result (IsCoded W.groups W.ready window.old window.new) }
+{
+    code(window)
 }

@@ -1,32 +1,38 @@
-ghost use Rattle.std.specs.Prelude.{◌≡◌, []};
+ghost use Rattle.std.specs.Prelude.{◌≡◌, ◌<◌, ◌≤◌, [], length};
+ghost use Rattle.record_writer.specs.Windows.{groups_of};
 
 use crate::made_file::MadeFile;
 use crate::pace::Pace;
 use crate::window::{MOST_GROUPS, Window};
-use ordered_writer::Reorder;
 use record_io::{Failed, Sink};
 use simple_chunk::{Records, SimpleChunk};
 use std::alloc::{AllocError, Global};
 use std::marker::Model;
-use std::mem;
+use std::thread::Threads;
+use std::{mem, thread};
 
-/// How many bytes fill a window once the one before it is put, so that the start of a thread costs little beside them.
+/// How many bytes fill a window while no other one is put, so that the start of a thread costs little beside them.
 const LEAST: u64 = 3 << 19;
 
-/// How many bytes fill a window until the one before it is put.
+/// How many bytes fill a window while another one is put.
 const FULL: u64 = LARGEST / 2;
 
 /// How many bytes a window has at most that is held while the next one is taken, and how many it keeps at most for the
 /// next chunks.
 const LARGEST: u64 = 1 << 23;
 
+/// In how many threads the chunks of a window are encoded at most. With these it takes less time than to take or put them.
+const MOST_CODING: u32 = 2;
+
 /// About how many bytes the chunk of a group takes beside those that it has memory for.
 const CHUNK_OVERHEAD: u64 = 256;
 
-/// The simple chunks of groups, whose records stay where they are. Two threads encode them, that which takes them and that
-/// which puts them. Contracts see the list of the groups. Own.
+/// The simple chunks of groups, whose records stay where they are. With one worker two threads encode them, that which takes
+/// them and that which puts them. With several, threads of their own do so, between the two. Contracts see the list of the
+/// groups. Own.
 #[derive(Drop)]
 pub(crate) struct SimpleWindow {
+    workers: u32,
     /// The chunks, and behind them others that were put, whose memory serves again.
     chunks: Vec<SimpleChunk>,
     count: usize,
@@ -41,19 +47,29 @@ impl Model for SimpleWindow {
 
     ghost view = { λ w. groups_of (take w.count w.chunks.items) };
 
-    ghost invariant = { λ w. w.count ≤ length w.chunks.items };
+    ghost invariant = { λ w. (1 ≤ w.workers) × (w.count ≤ length w.chunks.items) };
 }
 
 impl SimpleWindow {
-    /// A window without a group. It takes no memory.
-    pub fn new(alloc: Global) -> SimpleWindow
+    /// A window without a group, for so many workers. It takes no memory.
+    pub fn new(alloc: Global, workers: u32) -> SimpleWindow
+        requires { 1 ≤ workers }
         ensures { result ≡ [] }
     {
         SimpleWindow {
+            workers,
             chunks: Vec::new(alloc),
             count: 0,
             size: 0,
         }
+    }
+
+    /// Encodes the chunks, in as many threads as there are workers, but no more than two.
+    pub fn encode<R: Threads + Sync>(&mut self, rt: &R)
+        ensures { self.new ≡ self.old }
+    {
+        let threads = self.workers.min(MOST_CODING) as usize;
+        encode_first(rt, threads, self.count, &mut self.chunks);
     }
 
     /// Forgets the groups, and keeps their memory unless it is much.
@@ -78,7 +94,7 @@ impl Window for SimpleWindow {
     ghost ready = { λ _. Unit {0} };
 
     fn another(&self, alloc: Global) -> SimpleWindow {
-        SimpleWindow::new(alloc)
+        SimpleWindow::new(alloc, self.workers)
     }
 
     fn is_empty(&self) -> bool {
@@ -94,7 +110,7 @@ impl Window for SimpleWindow {
         self.size > LARGEST
     }
 
-    // The chunk is encoded here until the window before is put, and else by `put`.
+    // With one worker the chunk is encoded here until the window before is put, and else by `put`.
     fn push(&mut self, alloc: Global, group: &mut Records, pace: &Pace) -> Result<(), AllocError> {
         match self.chunks.get_mut(self.count) {
             Some(chunk) => chunk.replace(group)?,
@@ -104,7 +120,7 @@ impl Window for SimpleWindow {
             }
         }
         let chunk = &mut self.chunks[self.count];
-        if pace.is_putting() {
+        if self.workers == 1 && pace.is_putting() {
             chunk.encode();
         }
         let size = size_of(chunk);
@@ -113,11 +129,9 @@ impl Window for SimpleWindow {
         Ok(())
     }
 
-    fn to_code(&self) -> Option<&[Records]> {
-        None
+    fn is_to_code(&self) -> bool {
+        self.workers > 1 && self.count > 0
     }
-
-    fn keep(&mut self, _chunks: Reorder) {}
 
     fn put<M: Sink>(&mut self, file: &mut MadeFile, made: &mut M) -> Result<(), Failed> {
         for i in 0..self.count {
@@ -128,6 +142,16 @@ impl Window for SimpleWindow {
         self.empty();
         Ok(())
     }
+}
+
+/// Encodes the first of these chunks, so many of them, in at most so many threads.
+fn encode_first<R: Threads + Sync>(rt: &R, threads: usize, count: usize, chunks: &mut [SimpleChunk])
+    requires threads { 0 < threads }
+    requires count { count ≤ length chunks.old }
+    ensures { groups_of chunks.new ≡ groups_of chunks.old }
+{
+    let (first, _) = chunks.split_at_mut(count);
+    thread::for_each_mut(rt, first, threads, &|_, chunk| chunk.encode());
 }
 
 /// About how many bytes a chunk takes.

@@ -1,11 +1,9 @@
-ghost use Rattle.std.specs.Prelude.{◌≡◌, ℕ, ◌^◌, ◌<◌, ◌≤◌, true, false, List, [], ◌∷◌, ◌++◌, length, IfNone, IfSome, IsErr, OnOk, OnErr};
+ghost use Rattle.std.specs.Prelude.{◌≡◌, ℕ, ◌^◌, ◌<◌, ◌≤◌, true, false, List, [], ◌∷◌, ◌++◌, length, IsErr, OnOk, OnErr};
 ghost use Rattle.simple_chunk.specs.Costs.{cost_of};
-ghost use Rattle.record_writer.specs.CodedWindows.{AreInOrder, CanBeCoded};
 ghost use Rattle.record_writer.specs.MadeFiles.{LaysTo, MayLay, chunks_of_groups};
 
 use crate::made_file::MadeFile;
 use crate::pace::Pace;
-use ordered_writer::Reorder;
 use record_io::{Failed, Sink};
 use simple_chunk::Records;
 use std::alloc::{AllocError, Global};
@@ -45,17 +43,9 @@ pub(crate) trait Window: Drop {
         ensures appends { OnOk result (groups self.new ≡ groups self.old ++ group.old ∷ []) }
         ensures kept { OnErr result (groups self.new ≡ groups self.old) };
 
-    /// The groups, where there are some whose chunks are to be made before they are put. Else `put` needs none.
-    fn to_code(&self) -> Option<&[Records]>
-        ensures groups { IfSome result (λ to_code. to_code.now ≡ groups self.now) }
-        ensures coded { IfSome result (λ to_code. CanBeCoded to_code.now) }
-        ensures ready { IfNone result (ready self.now) };
-
-    /// Keeps the chunks of the groups.
-    fn keep(&mut self, chunks: Reorder)
-        requires { AreInOrder (chunks_of_groups (groups self.old)) chunks }
-        ensures ready { ready self.new }
-        ensures same { groups self.new ≡ groups self.old };
+    /// Whether its chunks are to be made before they are put. Else `put` can make them.
+    fn is_to_code(&self) -> bool
+        ensures { result ≡ false → ready self.now };
 
     /// Puts the chunks of the groups, one after another, of which none is left then.
     ///

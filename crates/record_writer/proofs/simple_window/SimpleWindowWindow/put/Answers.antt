@@ -9,8 +9,9 @@ use Rattle.record_writer.proofs.simple_window.SimpleWindowWindow.put.Goals.{Afte
 
 pub loop-i-init : goal.loop-i-init
 loop-i-init g c = record {
+  workers = c.self.invariant.0;
   count = refl;
-  held = omega (arith, c.self.invariant);
+  held = omega (arith, c.self.invariant.1);
   groups = c.self.view_is;
   laid = Lays-none _ c.args.file.now c.requires.may_lay.going;
   counts = search rules;
@@ -49,6 +50,7 @@ pub loop-i-preserved : goal.loop-i-preserved
 loop-i-preserved g c =
     let there = there g (goal.at.loop-i-preserved g c).After-encode in
     record {
+      workers = c.loop-i.invariant.workers;
       count = c.loop-i.invariant.count;
       held = omega (arith, c.loop-i.invariant.held, length-set c.loop-i.self-inside.chunks.items c.loop-i.i c.encode.new.self);
       groups = groups-kept c.loop-i.self-inside.chunks.items c.loop-i.self-inside.count c.args.self.now c.loop-i.i c.index_mut-chunk.result.now c.encode.new.self

@@ -6,6 +6,7 @@ use Rattle.record_writer.proofs.simple_window.SimpleWindowWindow.put.Given as go
 
 abbrev pub invariant-loop-i : goal.invariant-loop-i
 invariant-loop-i g l = record {
+  workers : 1 ≤ l.self-inside.workers;
   count : l.self-inside.count ≡ l.initial.self-inside.count;
   held : l.self-inside.count ≤ length l.self-inside.chunks.items;
   groups : groups_of (take l.self-inside.count l.self-inside.chunks.items) ≡ l.fn.self;
