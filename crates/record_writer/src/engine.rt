@@ -1,7 +1,6 @@
 ghost use Rattle.std.specs.Prelude.{◌≡◌, ◌+◌, ◌^◌, ◌<◌, ◌≤◌, true, false, [], IfOk, OnOk};
 ghost use Rattle.meta_chunk.specs.Files.{totals_of};
 ghost use Rattle.ordered_writer.specs.Writers.{IsBoundaryWithin};
-ghost use Rattle.record_group.specs.Groups.{pads_start, pads_end};
 ghost use Rattle.record_group.specs.Groupings.{groups_from};
 ghost use Rattle.record_writer.specs.Behind.{MayFollow, PutsRecords, WritesBehind};
 ghost use Rattle.record_writer.specs.CodedWindows.{CodesSimply};
@@ -22,7 +21,6 @@ use crate::pipeline::Pipeline;
 use crate::simple_window::SimpleWindow;
 use crate::window::Window;
 use chunk_workers::Coder;
-use record_group::Pad;
 use record_io::{Failed, Sink, Totals};
 use std::alloc::{AllocError, Global};
 use std::thread::Threads;
@@ -259,24 +257,10 @@ fn put_chunks<
         result file.old file.new feed.old feed.new made.old made.new }
     ensures behind { OnOk result (file.old.place ≤ file.new.place) }
 {
-    file.pad_if(pads_start(options.pad), made)?;
+    file.pad_if(options.pad.pads_start(), made)?;
     let stop = put_groups(rt, code, file, pipeline, feed, made)?;
-    file.pad_if(pads_end(options.pad), made)?;
+    file.pad_if(options.pad.pads_end(), made)?;
     Ok(stop)
-}
-
-/// Whether padding is wanted before the chunks of records.
-fn pads_start(pad: Pad) -> bool
-    ensures { result ≡ pads_start pad }
-{
-    matches!(pad, Pad::Start | Pad::Both)
-}
-
-/// Whether padding is wanted behind them.
-fn pads_end(pad: Pad) -> bool
-    ensures { result ≡ pads_end pad }
-{
-    matches!(pad, Pad::End | Pad::Both)
 }
 
 /// Puts a chunk for each group of the feed's records, and answers which stop follows them.
