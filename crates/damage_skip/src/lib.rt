@@ -14,7 +14,7 @@ mod walks;
 
 pub use events::{Event, WalkEnd};
 pub use pieces::{Found, NextPiece, piece_at};
-pub use policies::Policy;
+pub use policies::{Policy, may_skip};
 pub use progress::Progress;
 pub use regions::{Region, region_line};
 pub use resyncs::resync;

@@ -1,5 +1,6 @@
 ghost use Rattle.std.specs.Fn.{FnReturnsAt};
-ghost use Rattle.std.specs.Prelude.{◌≡◌};
+ghost use Rattle.std.specs.Prelude.{◌≡◌, ◌≤◌};
+ghost use Rattle.damage_skip.specs.Bounds.{may_skip};
 ghost use Rattle.damage_skip.specs.Policies.{IsRegion, IsTest};
 
 use crate::regions::Region;
@@ -27,5 +28,16 @@ impl<F: Fn(&Region) -> bool + Drop> Policy<F> {
         ensures { FnReturnsAt F.Fn self.now.test region.now result }
     {
         (self.test)(region)
+    }
+}
+
+/// Whether a region may be skipped, where they may be bounded to so many bytes.
+pub fn may_skip(most: Option<u64>, region: &Region) -> bool
+    requires { region.now.begin ≤ region.now.end }
+    ensures { result ≡ may_skip most region.now }
+{
+    match most {
+        Some(most) => region.end - region.begin <= most,
+        None => true,
     }
 }

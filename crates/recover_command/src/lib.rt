@@ -6,4 +6,4 @@ mod recovering;
 mod walking;
 
 pub use recovering::recover;
-pub use walking::{end_walk, may_skip};
+pub use walking::end_walk;

@@ -16,9 +16,9 @@ ghost use Rattle.command_frame.specs.Endings.{HasPutAtEnd, IsAllowedEnd, CutsRea
 ghost use Rattle.recover_command.specs.WalkingEnds.{TellsOf, walk_ends};
 
 use crate::recover_words::RecoverWords;
-use crate::walking::{end_walk, may_skip};
+use crate::walking::end_walk;
 use command_frame::{Cut, Ending, Status, size_of, unprinted};
-use damage_skip::{Event, Policy, Region, WalkEnd, Walker, region_line};
+use damage_skip::{Event, Policy, Region, WalkEnd, Walker, may_skip, region_line};
 use record_io::{Failed, PutBuffer, Sink, Store};
 use show_command::{LINES, put_records};
 use std::alloc::Global;

@@ -1,26 +1,13 @@
 ghost use lib.Chars.{codes};
-ghost use Rattle.std.specs.Prelude.{◌≡◌, ◌-◌, ◌≤◌};
 ghost use Rattle.record_io.specs.Calls.{OnlyCounts};
 ghost use Rattle.record_io.specs.Seen.{seen_stream};
 ghost use Rattle.command_frame.specs.Endings.{EndsInNotes, SaysAtEnd};
 ghost use Rattle.recover_command.specs.WalkingEnds.{walk_ends};
-ghost use Rattle.damage_skip.specs.Bounds.{may_skip};
 ghost use Rattle.damage_skip.specs.Regions.{region_text};
 
 use command_frame::{Ending, Status, cut_off, end_too_long};
 use damage_skip::{Region, region_line};
 use record_io::{Failed, Sink};
-
-/// Whether a region may be skipped, where they may be bounded to so many bytes.
-pub fn may_skip(most: Option<u64>, region: &Region) -> bool
-    requires { region.now.begin ≤ region.now.end }
-    ensures { result ≡ may_skip most region.now }
-{
-    match most {
-        Some(most) => region.end - region.begin <= most,
-        None => true,
-    }
-}
 
 /// Says in notes why a walk ended, where it did before the file.
 pub fn end_walk<E: Sink>(ended: Result<Status, Ending<Region>>, notes: &mut E) -> Status

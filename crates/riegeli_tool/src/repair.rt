@@ -18,9 +18,9 @@ ghost use Rattle.recover_command.specs.WalkingEnds.{TellsOf, walk_ends};
 
 use crate::repair_words::RepairWords;
 use command_frame::{Cut, Ending, Status, put_report, size_of};
-use damage_skip::{Policy, Region};
+use damage_skip::{Policy, Region, may_skip};
 use record_io::{Failed, Sink, Store};
-use recover_command::{end_walk, may_skip};
+use recover_command::end_walk;
 use repair_copy::RepairEnd;
 use std::alloc::Global;
 
