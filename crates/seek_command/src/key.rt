@@ -1,5 +1,4 @@
 ghost use Rattle.std.specs.Prelude.{◌≡◌};
-ghost use Rattle.seek_command.specs.Searches.{is_below};
 
 use std::marker::Model;
 
@@ -25,10 +24,10 @@ impl<'a> SearchKey<'a> {
         SearchKey { text }
     }
 
-    /// Whether bytes are less than the key's.
-    pub(crate) fn is_past(&self, bytes: &[u8]) -> bool
-        ensures { result ≡ is_below self.now bytes.now }
+    /// Its bytes.
+    pub(crate) fn as_bytes(&self) -> &[u8]
+        ensures { result.now ≡ self.now }
     {
-        bytes.cmp(self.text.as_bytes()).is_lt()
+        self.text.as_bytes()
     }
 }

@@ -6,4 +6,5 @@ mod searching;
 pub mod seek_words;
 mod seeking;
 
+pub use searching::find_by_key;
 pub use seeking::show_found;

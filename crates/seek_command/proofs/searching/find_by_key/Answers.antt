@@ -4,14 +4,14 @@ use Rattle.record_seek.specs.Steps.{placed_of}
 use Rattle.record_seek.proofs.FoundByKey.{met-not_whole}
 use Rattle.seek_command.specs.Searches.{MayFind}
 use Rattle.seek_command.proofs.ByteOrder.{finds, refuses}
-use Rattle.seek_command.proofs.searching.find_key.Goals as goal
+use Rattle.seek_command.proofs.searching.find_by_key.Goals as goal
 
 pub returns-clause-found : goal.returns-clause-found
 returns-clause-found g c =
     let did = c.find.ensures in
-    let same : c.new-test.result.test.0.now ≡ c.args.key.now = ap (λ f. f.0.now) c.new-test.ensures in
+    let same : c.new-test.result.test.0.now.now ≡ c.args.key.now = ap (λ f. f.0.now.now) c.new-test.ensures in
     subst (λ (key : List ℕ). IfOk c.find.result (λ found. IfSome (g.S.Store.bytes c.args.file.now) (λ bytes. MayFind key bytes (placed_of found)))) same
-    (finds _ _ c.new-test.result.test.0.now c.find.result _ did.found did.in_order did.apart did.met did.none (λ p answer. (λ h. h, λ h. h)))
+    (finds _ _ c.new-test.result.test.0.now.now c.find.result _ did.found did.in_order did.apart did.met did.none (λ p answer. (λ h. h, λ h. h)))
 
 pub returns-clause-refused : goal.returns-clause-refused
 returns-clause-refused g c =
