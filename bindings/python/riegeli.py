@@ -283,7 +283,7 @@ class Reader:
 
         Where they aren't, it is one that isn't less, and the first or right behind one that is less.
         """
-        key = bytes(key)
+        key = bytes(memoryview(key))
         return self._found("riegeli_find", key, len(key))
 
     def split(self, at: int) -> int:

@@ -158,6 +158,9 @@ class Reading(Case):
                 for call in reader.at, reader.split, lambda it: next(reader.chunks(it)):
                     with self.assertRaises(ValueError):
                         call(number)
+            for key in "text", 3, None, [b"a"]:
+                with self.assertRaises(TypeError):
+                    reader.find(key)
 
     def test_a_long_record_is_found(self):
         self.written([b"a", b"b" * 100000])
