@@ -1,4 +1,5 @@
-"""What bench/run makes of its times: the tables as Markdown, the plots, and what they lack."""
+"""What bench/run makes of its times: the tables as Markdown, the plots, and what they lack. Other scripts here tell theirs in the
+same way."""
 import os
 import platform
 import re
@@ -84,6 +85,12 @@ def table(heads, rows):
     return "".join(f"| {' | '.join(cells)} |\n" for cells in lines)
 
 
+def machine_table(facts, rounds):
+    """The table of what the figures are of."""
+    rows = [*facts.items(), ("Rounds", str(rounds))]
+    return "### The machine\n\n" + table(["", ""], rows).replace("---:", "---")
+
+
 def row(job, jobs):
     """The row of a job among those that it may be compared with."""
     if not job.runs:
@@ -156,9 +163,7 @@ def by_size(plan, note):
 
 def markdown(plan, facts, pictures):
     """All tables and the plots, which lie in a folder."""
-    rows = [*facts.items(), ("Rounds", str(plan.rounds))]
-    parts = ["### The machine\n\n" + table(["", ""], rows).replace("---:", "---")]
-    parts.append(f"![Throughput by command]({pictures}/throughput.svg)\n")
+    parts = [machine_table(facts, plan.rounds), f"![Throughput by command]({pictures}/throughput.svg)\n"]
     for lines in plan.sets:
         parts += set_tables(lines)
     parts.append(f"![Time by size]({pictures}/sizes.svg)\n")
