@@ -5,6 +5,7 @@ pub mod RecordEnds
 pub mod SeekSteps
 pub mod RepairRoom
 pub mod RepairSteps
+pub mod EnoughRoom
 pub mod RecoverSteps
 pub mod ToldPieces
 pub mod UnkeptPieces

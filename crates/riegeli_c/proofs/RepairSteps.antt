@@ -25,7 +25,7 @@ use Rattle.repair_copy.specs.declared.repairs.RepairEnd.TheVariants as repair
 use Rattle.repair_copy.proofs.RepairPuts.{made_in-repair, notes_in-repair}
 use Rattle.riegeli_c.proofs.RepairRoom.{made_less, lines_less}
 use Rattle.riegeli_c.proofs.Told.{shown}
-use Rattle.riegeli_c.specs.Repairs.{TakesRepair, MeasuresRepair, TakesLess, told_lines}
+use Rattle.riegeli_c.specs.Repairs.{TakesRepair, MeasuresRepair, TakesLess, LoadsWalkedChunk, told_lines}
 use Rattle.riegeli_c.specs.declared.repairing.RepairTold.{RepairTold}
 
 -- a function answers of a region whether it has no more than so many bytes
@@ -134,6 +134,23 @@ module _ {F : Type 0} (g : Shared F (Bor Region × Unit {0}) Bool) (f : F) (most
       (from_none (Err repair.Notes) taken told none also
       (subst (λ (r : Result Repaired RepairEnd). RepairsAs r taken told) is
       (shown (λ (x : List ℕ). Repairs g f result faults faults_then (taken_by taken None told) (taken_by made None lines) handed x) file bytes lent h)))
+
+-- where memory is wanting, a walk past regions that are allowed came to a chunk that can be loaded
+pub loads_walked : {F : Type 0} (g : Shared F (Bor Region × Unit {0}) Bool) (f : F) (P : Region → Type 0) (file : List ℕ)
+    → ((region : Region) → IsAllowedRegion g f region → P region)
+    → (bytes : Option (List ℕ)) (result : Result Repaired RepairEnd) (faults faults_then handed : ℕ) (before after : Taken)
+    → bytes ≡ Some file → result ≡ Err repair.Memory
+    → IfSome bytes (Repairs g f result faults faults_then before after handed) → LoadsWalkedChunk P file
+loads_walked g f P file allows bytes result faults faults_then handed before after lent is known =
+    let h : Repairs g f (Err repair.Memory) faults faults_then before after handed file =
+    subst (λ (r : Result Repaired RepairEnd). Repairs g f r faults faults_then before after handed file) is
+    (shown (λ (x : List ℕ). Repairs g f result faults faults_then before after handed x) file bytes lent known) in
+    record {
+      place = h.place;
+      events = h.events;
+      walked_to = walked-so true (IsAllowedRegion g f) file P h.place h.events allows h.walked;
+      may_load = h.answer;
+    }
 
 -- how much room is enough for all events of a file, where no region is refused
 measured_of : {F : Type 0} (g : Shared F (Bor Region × Unit {0}) Bool) (f : F) (file : List ℕ) (repaired : Repaired) (told : RepairTold)

@@ -2,9 +2,10 @@
 use Rattle.std.specs.Prelude.{◌≡◌, ℕ, ◌*◌, ◌-◌, ◌^◌, ◌<◌, ◌⊎◌, min, true, Option, Some, IfSome, List, length, take}
 use Rattle.damage_skip.specs.Bounds.{walked, refused_in}
 use Rattle.damage_skip.specs.Pieces.{Piece, AreEvents}
-use Rattle.damage_skip.specs.Regions.{regions_in, skipped_text}
+use Rattle.damage_skip.specs.Regions.{regions_in, skipped_text, IsWalkedTo}
 use Rattle.damage_skip.specs.declared.regions.Region.{Region}
 use Rattle.repair_copy.specs.RelaidFiles.{relaid}
+use Rattle.chunk_reader.specs.Reasons.{Applies, NoneOf, loading_reasons}
 use Rattle.riegeli_c.specs.Reasons.{reason_number}
 use Rattle.riegeli_c.specs.declared.repairing.RegionTold.{RegionTold}
 use Rattle.riegeli_c.specs.declared.repairing.RepairTold.{RepairTold}
@@ -54,3 +55,11 @@ pub record ExceedsRoom (file : List ℕ) (most made lines : ℕ) : Type 0 where
   pub are : AreEvents true file events
   pub exceeds : (made < length (relaid (walked (Some most) events)))
       ⊎ (lines < length (told_lines (walked (Some most) events)))
+
+-- a walk past regions of which P holds comes to a chunk that can be loaded: none of the reasons
+-- applies by which a chunk is refused before its data is read
+pub record LoadsWalkedChunk (P : Region → Type 0) (file : List ℕ) : Type 0 where
+  pub place : ℕ
+  pub events : List Piece
+  pub walked_to : IsWalkedTo true P file place events
+  pub may_load : NoneOf (Applies file place) loading_reasons

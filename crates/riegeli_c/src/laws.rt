@@ -7,6 +7,9 @@ ghost use Rattle.riegeli_c.specs.Recovers.{IsBadBegin, TellsPiece, AreToldFrom, 
 ghost use Rattle.meta_chunk.specs.Files.{end_of_chunks, laid_each};
 ghost use Rattle.record_group.specs.declared.pad.Pad.{Pad};
 ghost use Rattle.record_group.specs.Groups.{chunks_of, file_of, record_chunks};
+ghost use lib.Chars.{codes};
+ghost use Rattle.damage_skip.specs.Regions.{region_text};
+ghost use Rattle.damage_skip.specs.declared.regions.Region.{Region};
 ghost use Rattle.riegeli_c.specs.Chunks.{AreGiven};
 ghost use Rattle.riegeli_c.specs.Writes.{AreCuts, chunks_laid, pad_behind, records_cut, records_laid};
 
@@ -39,6 +42,12 @@ pub fn unread_chunks_are_passed_over()
         → ArePieces true file pieces → AreEvents false file events → records_in events ≡ records_in pieces }
     ensures placed { (file : List ℕ) (pieces events : List Piece)
         → ArePieces true file pieces → AreEvents false file events → placed_in events ≡ placed_in pieces }
+{}
+
+/// The line that tells a region of a file of at most 2^60 bytes has at most 61. Own.
+pub fn region_lines_are_short()
+    ensures { (region : Region) → region.begin ≤ 2 ^ 60 → region.end ≤ 2 ^ 60
+        → length (region_text (codes "skipped") region) ≤ 61 }
 {}
 
 /// The records that end at places of values, where these are good, are what a chunk's records are given as: their bytes are the

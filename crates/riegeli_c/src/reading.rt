@@ -5,6 +5,7 @@ ghost use Rattle.meta_chunk.specs.Files.{totals_of, IsWellFormed};
 ghost use Rattle.chunk_reader.specs.Faults.{BeginsWithSignature, IsAllowed, IsFault, IsLongest};
 ghost use Rattle.chunk_reader.specs.declared.reasons.Fault.{Fault};
 ghost use Rattle.chunk_reader.specs.Contents.{records_given};
+ghost use Rattle.chunk_reader.specs.Reasons.{Applies, NoneOf, loading_reasons};
 ghost use Rattle.riegeli_c.specs.Chunks.{IsBadPlace, IsChunkTold, HasChunkWith, AreGiven, IsTooSmall, IsStatusFor, ends_from};
 ghost use Rattle.riegeli_c.specs.Judging.{TellsJudged, what_number};
 ghost use Rattle.riegeli_c.specs.Faults.{TellsFault, IsFaultThere};
@@ -117,8 +118,10 @@ pub extern "C" fn riegeli_read_chunk(
     ensures given { result ≡ 0 → (records : List (List ℕ))
         × IsChunkTold file.now at chunk.new records × AreGiven records values.new ends.new }
     ensures refused { result ≡ 1 → TellsFault (IsFaultThere file.now at) fault.new }
-    ensures signed { (result ≡ 0) ⊎ (result ≡ 4) → at ≡ 0 → BeginsWithSignature file.now }
+    ensures signed { (result ≡ 0) ⊎ (result ≡ 3) ⊎ (result ≡ 4)
+        → at ≡ 0 → BeginsWithSignature file.now }
     ensures bad { (result ≡ 2) ↔ IsBadPlace file.now at }
+    ensures memory { result ≡ 3 → NoneOf (Applies file.now at) loading_reasons }
     ensures room { result ≡ 4 → (records : List (List ℕ))
         × IsChunkTold file.now at chunk.new records × IsTooSmall records values.old ends.old }
     ensures at_end { (result ≡ 5) ↔ ((at ≢ 0) × (at ≡ length file.now) × (¬ IsBadPlace file.now at)) }

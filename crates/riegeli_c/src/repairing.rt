@@ -1,10 +1,10 @@
-ghost use Rattle.std.specs.Prelude.{◌≡◌, ◌^◌, ◌<◌, ◌≤◌, ◌⊎◌, ◌↔◌, true, [], Some, None, Err, IfSome, OnOk, length};
+ghost use Rattle.std.specs.Prelude.{◌≡◌, ◌≢◌, ◌^◌, ◌<◌, ◌≤◌, ◌⊎◌, ◌↔◌, true, [], Some, None, Err, IfSome, OnOk, length};
 ghost use Rattle.record_io.specs.Calls.{OnlyCounts};
-ghost use Rattle.damage_skip.specs.Bounds.{may_skip};
+ghost use Rattle.damage_skip.specs.Bounds.{MaySkip, may_skip};
 ghost use Rattle.damage_skip.specs.declared.regions.Region.{Region};
 ghost use Rattle.repair_copy.specs.RelaidFiles.{relaid};
 ghost use Rattle.riegeli_c.specs.Reasons.{reason_number};
-ghost use Rattle.riegeli_c.specs.Repairs.{GivesRepair, StopsRepair, TakesRepair, MeasuresRepair, TakesLess, ExceedsRoom, told_lines};
+ghost use Rattle.riegeli_c.specs.Repairs.{GivesRepair, StopsRepair, TakesRepair, MeasuresRepair, TakesLess, ExceedsRoom, LoadsWalkedChunk, told_lines};
 
 use crate::faults::reason_number;
 use crate::reading::MAX_SIZE;
@@ -60,8 +60,13 @@ pub extern "C" fn riegeli_repair(
     ensures stopped { result ≡ 1 → StopsRepair file.now most region.new repaired.new room.new lines.new }
     ensures within { (result ≡ 0) ⊎ (result ≡ 1) → (repaired.new.bytes ≤ length room.old) × (repaired.new.lines ≤ length lines.old) }
     ensures too_long { (result ≡ 2) ↔ (2 ^ 60 < length file.now) }
+    ensures memory { result ≡ 3 → LoadsWalkedChunk (MaySkip (Some most)) file.now
+        ⊎ (LoadsWalkedChunk (MaySkip None) file.now
+        × ExceedsRoom file.now most (length room.old) (length lines.old)) }
     ensures room { result ≡ 4 → MeasuresRepair file.now repaired.new }
     ensures too_small { result ≡ 4 → ExceedsRoom file.now most (length room.old) (length lines.old) }
+    ensures enough { (told : RepairTold) → MeasuresRepair file.now told
+        → told.bytes ≤ length room.old → told.lines ≤ length lines.old → result ≢ 4 }
 {
     if file.len() as u64 > MAX_SIZE {
         return 2;
@@ -108,6 +113,7 @@ fn repair_within<M: Sink, E: Sink>(
     ensures made_less { result ≡ Err RepairEnd.Made → TakesLess relaid file.now most (M.taken made.new) }
     ensures notes_less { result ≡ Err RepairEnd.Notes → TakesLess told_lines file.now most (E.taken notes.new) }
     ensures not_store { ¬ (result ≡ Err RepairEnd.Store) }
+    ensures memory { result ≡ Err RepairEnd.Memory → LoadsWalkedChunk (MaySkip (Some most)) file.now }
     ensures made { OnlyCounts M.lent M.faults (result ≡ Err RepairEnd.Made) made.old made.new }
     ensures notes { OnlyCounts E.lent E.faults (result ≡ Err RepairEnd.Notes) notes.old notes.new }
 {
@@ -127,7 +133,8 @@ fn may_skip(most: u64, region: &Region) -> bool
 /// How much room the repair of a file takes where no region is refused; `None` where there is too little memory.
 fn room_needed(alloc: Global, file: &[u8]) -> Option<RepairTold>
     requires { length file.now ≤ 2 ^ 60 }
-    ensures { IfSome result (MeasuresRepair file.now) }
+    ensures measures { IfSome result (MeasuresRepair file.now) }
+    ensures memory { result ≡ None → LoadsWalkedChunk (MaySkip None) file.now }
 {
     let mut store = SliceStore::new(file);
     let policy = Policy::new(

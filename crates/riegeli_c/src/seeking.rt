@@ -2,9 +2,11 @@ ghost use Rattle.std.specs.Prelude.{◌≡◌, ◌-◌, ◌^◌, ◌<◌, ◌≤
 ghost use Rattle.record_io.specs.Calls.{OnlyAsks};
 ghost use Rattle.record_io.specs.Calls.{HasSize};
 ghost use Rattle.chunk_reader.specs.Holders.{IsHolderFault};
-ghost use Rattle.chunk_reader.specs.PositionSearches.{SearchGives, IsSearchFault};
+ghost use Rattle.chunk_reader.specs.PositionSearches.{AnswersAt, SearchGives, IsSearchFault};
+ghost use Rattle.chunk_reader.specs.Reasons.{Applies, NoneOf, loading_reasons};
 ghost use Rattle.chunk_reader.specs.declared.reasons.Fault.{Fault};
-ghost use Rattle.record_seek.specs.Steps.{placed_of};
+ghost use Rattle.record_seek.specs.Met.{IsMetBySearch};
+ghost use Rattle.record_seek.specs.Steps.{LoadsMetChunk, placed_of};
 ghost use Rattle.seek_command.specs.Searches.{is_below, MayFind, IsKeyFault};
 ghost use Rattle.riegeli_c.specs.Faults.{TellsFault};
 ghost use Rattle.riegeli_c.specs.Seeks.{HoldsFound, IsRecordOf, TellsSought, TellsFound, IsFindFault};
@@ -48,6 +50,8 @@ pub extern "C" fn riegeli_seek(
     ensures given { result ≡ 0 → (bytes : List ℕ) × TellsSought file.now at found.new bytes × (take (length bytes) value.new ≡ bytes) }
     ensures refused { result ≡ 1 → TellsFault (IsSearchFault file.now at) fault.new }
     ensures too_long { (result ≡ 2) ↔ (2 ^ 60 < length file.now) }
+    ensures memory { result ≡ 3 → (place : ℕ)
+        × AnswersAt file.now at place × NoneOf (Applies file.now place) loading_reasons }
     ensures room { result ≡ 4 → (bytes : List ℕ) × TellsSought file.now at found.new bytes × (length value.old < length bytes) }
     ensures nothing { result ≡ 5 → SearchGives file.now at None }
 {
@@ -128,6 +132,8 @@ pub extern "C" fn riegeli_find(
     ensures given { result ≡ 0 → (bytes : List ℕ) × TellsFound file.now key.now found.new bytes × (take (length bytes) value.new ≡ bytes) }
     ensures refused { result ≡ 1 → TellsFault (IsFindFault file.now key.now) fault.new }
     ensures too_long { (result ≡ 2) ↔ (2 ^ 60 < length file.now) }
+    ensures memory { result ≡ 3 → (place : ℕ)
+        × IsMetBySearch file.now place × NoneOf (Applies file.now place) loading_reasons }
     ensures room { result ≡ 4 → (bytes : List ℕ) × TellsFound file.now key.now found.new bytes × (length value.old < length bytes) }
     ensures nothing { result ≡ 5 → MayFind key.now file.now None }
 {
@@ -189,6 +195,7 @@ fn find_by_key<S: Store>(
     requires sized { HasSize (S.told store.old) size }
     ensures found { IfOk result (λ found. IfSome (S.bytes store.old) (λ file. MayFind key.now file (placed_of found))) }
     ensures refused { (fault : Fault) → result ≡ Err (ReadEnd.Refused fault) → IfSome (S.bytes store.old) (λ file. IsKeyFault file fault) }
+    ensures memory { result ≡ Err ReadEnd.Memory → IfSome (S.bytes store.old) LoadsMetChunk }
     ensures store { OnlyAsks S.bytes S.told S.name S.faults (result ≡ Err ReadEnd.Store) store.old store.new }
 {
     let test = KeyTest::new(

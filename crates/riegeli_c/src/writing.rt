@@ -69,6 +69,7 @@ pub extern "C" fn riegeli_write(
 ) -> u32
     ensures answers { (result ≡ 0) ⊎ (result ≡ 2) ⊎ (result ≡ 3) ⊎ (result ≡ 4) }
     ensures bad { (result ≡ 2) ↔ (¬ MayWrite values.now ends.now options.now at last) }
+    ensures memory { result ≡ 3 → MayWrite values.now ends.now options.now at last }
     ensures laid { result ≡ 0 → take (written.new.end - at) room.new ≡ laid_each at (chunks_told at (records_cut values.now ends.now) options.now last) }
     ensures told { (result ≡ 0) ⊎ (result ≡ 4) → TellsWritten at (records_cut values.now ends.now) options.now last written.new }
     ensures fits { result ≡ 0 → written.new.end ≤ at + length room.old }

@@ -47,6 +47,10 @@ returns-in-Ok-clause-bad c = (
       (c.is_boundary.ensures.0 (search rules)) bad),
 )
 
+pub returns-in-Ok-clause-memory : goal.returns-in-Ok-clause-memory
+returns-in-Ok-clause-memory c = λ is.
+    absurd (is_other c.give_chunk.result 3 c.give_chunk.ensures.status (λ e. omega (arith, e)) (λ e. omega (arith, e)) is)
+
 pub returns-in-Ok-clause-signed : goal.returns-in-Ok-clause-signed
 returns-in-Ok-clause-signed c = λ _. c.begins_right.ensures.right (search rules)
 

@@ -1,5 +1,6 @@
-use Rattle.std.proofs.Common.{rules, tests}
-use Rattle.riegeli_c.proofs.RepairSteps.{gives_whole, gives_to, gives_made, gives_notes}
+use Rattle.std.proofs.Common.{Some, rules, tests}
+use Rattle.damage_skip.specs.Bounds.{MaySkip}
+use Rattle.riegeli_c.proofs.RepairSteps.{gives_whole, gives_to, gives_made, gives_notes, loads_walked}
 use Rattle.riegeli_c.proofs.Told.{never_rises}
 use Rattle.riegeli_c.proofs.repairing.repair_within.Goals as goal
 
@@ -25,3 +26,8 @@ returns-clause-notes_less g c = λ is.
 
 pub returns-clause-not_store : goal.returns-clause-not_store
 returns-clause-not_store g c = λ is. never_rises (c.repair.ensures.store.cause is)
+
+pub returns-clause-memory : goal.returns-clause-memory
+returns-clause-memory g c = λ is.
+    loads_walked _ c.new-policy.result.test (MaySkip (Some c.args.most)) c.args.file.now (λ region allowed. search (rules, tests)) _ c.repair.result
+    _ _ _ _ _ c.new-store.ensures.bytes is c.repair.ensures.repairs
