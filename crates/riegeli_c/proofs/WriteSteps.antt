@@ -1,5 +1,5 @@
 -- The steps of a call that writes.
-use Rattle.std.proofs.Common.{◌≡◌, ◌∙◌, ℕ, ◌+◌, ◌-◌, ◌≤◌, Bool, ◌&&◌, Option, Some, Result, Ok, Err, List, [], ◌∷◌, ◌++◌, length, take, drop, refl, sym, ap, subst, length-append, arith}
+use Rattle.std.proofs.Common.{◌≡◌, ◌∙◌, ℕ, ◌+◌, ◌-◌, ◌≤◌, Bool, ◌&&◌, Option, Some, Result, Ok, Err, List, [], ◌++◌, length, take, drop, refl, sym, ap, subst, length-append, arith}
 use Rattle.std.specs.Result.{IfOk, OnOk}
 use Rattle.std.proofs.lemmas.List.{take_at, take-append-drop}
 use Rattle.std.specs.Prelude.{◌==◌}
@@ -9,81 +9,97 @@ use Rattle.meta_chunk.specs.Files.{end_of_chunks, laid_each}
 use Rattle.meta_chunk.proofs.Joins.{end-laid_each}
 use Rattle.ordered_writer.specs.Writers.{Writer}
 use Rattle.record_group.specs.Groups.{groups, padding_if, pads_start, pads_end}
+use Rattle.record_group.specs.Groupings.{Grouping}
 use Rattle.record_writer.specs.MadeFiles.{chunks_of_groups}
 use Rattle.riegeli_c.specs.declared.laying.LayEnd.{LayEnd}
 use Rattle.riegeli_c.specs.declared.writing.OptionsTold.{OptionsTold}
 use Rattle.riegeli_c.specs.declared.writing.WrittenTold.{WrittenTold}
 use Rattle.riegeli_c.specs.Laying.{AreLaidBy}
-use Rattle.riegeli_c.specs.Writes.{TellsWritten, chunks_told, every_told, groups_laid, pad_told, signature_at}
+use Rattle.riegeli_c.specs.Writes.{TellsWritten, chunks_told, every_told, groups_laid, pad_told, records_laid, signature_at}
 use Rattle.riegeli_c.proofs.LaidBy.{laid-then, short-then, short-longer, position}
 
+-- what a call that writes makes of its arguments: a writer at the place, whether padding is wanted before, and the limits of groups
+pub record IsReady (place : ℕ) (options : OptionsTold) (writer : Writer) (starts : Bool) (grouper : Grouping) : Type 0 where
+  pub there : writer.position ≡ place
+  pub starts_is : starts ≡ pads_start (pad_told options.pad)
+  pub size_is : grouper.size ≡ options.chunk
+  pub every_is : grouper.every ≡ every_told options.every
+
+-- how many of the records are laid, where the others are held
+pub count-told : {place : ℕ} {options : OptionsTold} {writer : Writer} {starts : Bool} {grouper : Grouping}
+    (ready : IsReady place options writer starts grouper) (records : List (List ℕ)) (last held count : ℕ)
+    → held + length (records_laid records grouper.size grouper.every (last == 1)) ≡ count
+    → held + length (records_laid records options.chunk (every_told options.every) (last == 1)) ≡ count
+count-told ready records last held count is = rw (ready.size_is, ready.every_is) at is
+
 module _ (a b : Option (List ℕ)) (u v : Writer) (place : ℕ) (records : List (List ℕ)) (options : OptionsTold) (last : ℕ)
-    (starts is_last : Bool) (size : ℕ) (every : Option ℕ) (there : u.position ≡ place) (starts_is : starts ≡ pads_start (pad_told options.pad)) where
+    (starts : Bool) (grouper : Grouping) (ready : IsReady place options u starts grouper) where
   -- what stands before the chunks of records
   abbrev First : List ChunkValue
   First = signature_at u.position ++ padding_if starts (end_of_chunks u.position (signature_at u.position))
 
-  abbrev Grouped : Bool → ℕ → Option ℕ → List ChunkValue
-  Grouped l s e = chunks_of_groups (groups_laid l (groups records s e))
+  abbrev Grouped : List ChunkValue
+  Grouped = chunks_of_groups (groups_laid (last == 1) (groups records grouper.size grouper.every))
 
-  abbrev Ended : Bool → List ChunkValue → List ChunkValue
-  Ended wanted ks = ks ++ padding_if wanted (end_of_chunks u.position ks)
+  abbrev Ended : Bool → List ChunkValue
+  Ended wanted = (First ++ Grouped) ++ padding_if wanted (end_of_chunks u.position (First ++ Grouped))
+
+  -- whether padding is wanted behind
+  abbrev Wanted : Bool
+  Wanted = (last == 1) && pads_end (pad_told options.pad)
 
   -- all chunks
-  all-are : (wanted : Bool) → is_last ≡ (last == 1) → wanted ≡ ((last == 1) && pads_end (pad_told options.pad)) → size ≡ options.chunk → every ≡ every_told options.every
-      → Ended wanted (First ++ Grouped is_last size every) ≡ chunks_told u.position records options last
-  all-are wanted p q r s = rw (starts_is, p, q, r, s) refl
+  all-are : Ended Wanted ≡ chunks_told u.position records options last
+  all-are = rw (ready.starts_is, ready.size_is, ready.every_is) refl
 
   at_place : (P : ℕ → Type 0) → P u.position → P place
-  at_place P h = subst P there h
+  at_place P h = subst P ready.there h
+
+  -- a front of the first isn't all
+  short-grouped : (c : Option (List ℕ)) → TakesShort a c (laid_each u.position (First ++ Grouped))
+      → TakesShort a c (laid_each place (chunks_told place records options last))
+  short-grouped c h =
+      at_place (λ (p : ℕ). TakesShort a c (laid_each p (chunks_told p records options last)))
+      (subst (λ (ks : List ChunkValue). TakesShort a c (laid_each u.position ks)) all-are
+      (short-longer a c u.position (First ++ Grouped) (padding_if Wanted (end_of_chunks u.position (First ++ Grouped))) h))
 
   -- not all of the first was taken
   pub short-first : TakesShort a b (laid_each u.position First) → TakesShort a b (laid_each place (chunks_told place records options last))
-  short-first h =
-      at_place (λ (p : ℕ). TakesShort a b (laid_each p (chunks_told p records options last)))
-      (let grouped : List ChunkValue = Grouped (last == 1) options.chunk (every_told options.every) in
-      let wanted : Bool = (last == 1) && pads_end (pad_told options.pad) in
-      let is : Ended wanted (First ++ grouped) ≡ chunks_told u.position records options last = rw starts_is refl in
-      subst (λ (ks : List ChunkValue). TakesShort a b (laid_each u.position ks)) is
-      (short-longer a b u.position (First ++ grouped) (padding_if wanted (end_of_chunks u.position (First ++ grouped)))
-      (short-longer a b u.position First grouped h)))
+  short-first h = short-grouped b (short-longer a b u.position First Grouped h)
 
   -- or of the groups' chunks, behind it
-  pub short-groups : (c : Option (List ℕ)) → is_last ≡ (last == 1) → size ≡ options.chunk → every ≡ every_told options.every → AreLaidBy a b u v First
-      → TakesShort b c (laid_each v.position (Grouped is_last size every)) → TakesShort a c (laid_each place (chunks_told place records options last))
-  short-groups c p r s first h =
-      at_place (λ (at : ℕ). TakesShort a c (laid_each at (chunks_told at records options last)))
-      (let wanted : Bool = (last == 1) && pads_end (pad_told options.pad) in
-      subst (λ (ks : List ChunkValue). TakesShort a c (laid_each u.position ks)) (all-are wanted p refl r s)
-      (short-longer a c u.position (First ++ Grouped is_last size every) (padding_if wanted (end_of_chunks u.position (First ++ Grouped is_last size every)))
-      (short-then a b c u v First (Grouped is_last size every) first h)))
+  pub short-groups : (c : Option (List ℕ)) → AreLaidBy a b u v First → TakesShort b c (laid_each v.position Grouped)
+      → TakesShort a c (laid_each place (chunks_told place records options last))
+  short-groups c first h = short-grouped c (short-then a b c u v First Grouped first h)
 
-  module _ (c : Option (List ℕ)) (w : Writer) (wanted : Bool) (p : is_last ≡ (last == 1)) (q : wanted ≡ ((last == 1) && pads_end (pad_told options.pad)))
-      (r : size ≡ options.chunk) (s : every ≡ every_told options.every) (first : AreLaidBy a b u v First) (then : AreLaidBy b c v w (Grouped is_last size every)) where
-    both : AreLaidBy a c u w (First ++ Grouped is_last size every)
-    both = laid-then a b c u v w First (Grouped is_last size every) first then
+  module _ (c : Option (List ℕ)) (w : Writer) (wanted : Bool) (ends_is : wanted ≡ ((last == 1) && pads_end (pad_told options.pad)))
+      (first : AreLaidBy a b u v First) (then : AreLaidBy b c v w Grouped) where
+    both : AreLaidBy a c u w (First ++ Grouped)
+    both = laid-then a b c u v w First Grouped first then
 
-    behind : w.position ≡ end_of_chunks u.position (First ++ Grouped is_last size every)
-    behind = position a c u w (First ++ Grouped is_last size every) both
+    -- the padding behind these
+    behind : padding_if wanted w.position ≡ padding_if Wanted (end_of_chunks u.position (First ++ Grouped))
+    behind = rw (ends_is, position a c u w (First ++ Grouped) both) refl
 
-    -- or of the padding behind these
+    -- or of that
     pub short-end : (d : Option (List ℕ)) → TakesShort c d (laid_each w.position (padding_if wanted w.position))
         → TakesShort a d (laid_each place (chunks_told place records options last))
     short-end d h =
-        at_place (λ (at : ℕ). TakesShort a d (laid_each at (chunks_told at records options last)))
-        (subst (λ (ks : List ChunkValue). TakesShort a d (laid_each u.position ks)) (all-are wanted p q r s)
-        (short-then a c d u w (First ++ Grouped is_last size every) (padding_if wanted (end_of_chunks u.position (First ++ Grouped is_last size every))) both
-        (subst (λ (at : ℕ). TakesShort c d (laid_each w.position (padding_if wanted at))) behind h)))
+        at_place (λ (p : ℕ). TakesShort a d (laid_each p (chunks_told p records options last)))
+        (subst (λ (ks : List ChunkValue). TakesShort a d (laid_each u.position ks)) all-are
+        (short-then a c d u w (First ++ Grouped) (padding_if Wanted (end_of_chunks u.position (First ++ Grouped))) both
+        (subst (λ (ks : List ChunkValue). TakesShort c d (laid_each w.position ks)) behind h)))
 
     -- all was taken
     pub whole-written : (d : Option (List ℕ)) (x : Writer) → AreLaidBy c d w x (padding_if wanted w.position)
         → Takes a d (laid_each place (chunks_told place records options last)) × (x.position ≡ end_of_chunks place (chunks_told place records options last))
     whole-written d x h =
-        at_place (λ (at : ℕ). Takes a d (laid_each at (chunks_told at records options last)) × (x.position ≡ end_of_chunks at (chunks_told at records options last)))
+        at_place
+        (λ (p : ℕ). Takes a d (laid_each p (chunks_told p records options last)) × (x.position ≡ end_of_chunks p (chunks_told p records options last)))
         (let all : AreLaidBy a d u x (chunks_told u.position records options last) =
-        subst (λ (ks : List ChunkValue). AreLaidBy a d u x ks) (all-are wanted p q r s)
-        (laid-then a c d u w x (First ++ Grouped is_last size every) (padding_if wanted (end_of_chunks u.position (First ++ Grouped is_last size every))) both
-        (subst (λ (at : ℕ). AreLaidBy c d w x (padding_if wanted at)) behind h)) in
+        subst (λ (ks : List ChunkValue). AreLaidBy a d u x ks) all-are
+        (laid-then a c d u w x (First ++ Grouped) (padding_if Wanted (end_of_chunks u.position (First ++ Grouped))) both
+        (subst (λ (ks : List ChunkValue). AreLaidBy c d w x ks) behind h)) in
         (all.bytes, position a d u x (chunks_told u.position records options last) all))
 
 -- what stands in room of which so much is used, where a sink over it took all that was laid

@@ -1,11 +1,11 @@
-use Rattle.std.proofs.Common.{◌≡◌, ◌∙◌, ℕ, ◌+◌, ◌-◌, ◌^◌, ◌≤◌, Bool, true, false, List, [], ◌∷◌, ◌++◌, Ok, Err, length, refl, sym, ap, subst, arith, rules}
+use Rattle.std.proofs.Common.{◌≡◌, ◌∙◌, ℕ, ◌+◌, ◌^◌, Bool, true, false, Some, List, [], ◌∷◌, ◌++◌, Err, length, sym, ap, subst, arith, rules}
 use Rattle.std.specs.Option.{option_to_list}
 use Rattle.std.proofs.lemmas.List.{map-append}
 use Rattle.std.proofs.lemmas.Result.{err_from_is_err_and}
 use Rattle.record_io.specs.Outside.{TakesShort}
 use Rattle.chunk_header.specs.Chunks.{ChunkValue}
 use Rattle.chunk_header.specs.SimpleChunks.{simple_chunk}
-use Rattle.meta_chunk.specs.Files.{laid_each, end_of_chunks}
+use Rattle.meta_chunk.specs.Files.{laid_each}
 use Rattle.simple_chunk.proofs.RecordLists.{length-records_from}
 use Rattle.record_group.specs.Groups.{groups}
 use Rattle.record_group.specs.Groupings.{groups_from}
@@ -18,6 +18,39 @@ use Rattle.riegeli_c.proofs.ClosedGroups.{chunks-push, count-none, count-held, l
 use Rattle.riegeli_c.proofs.HeldGroups.{laid-all}
 use Rattle.riegeli_c.proofs.LaidBy.{counts-then, counts-where, laid-then, lays-err, lays-ok, position, short-longer, short-then, unspent}
 use Rattle.riegeli_c.proofs.laying.lay_groups.Goals as goal
+use Rattle.riegeli_c.proofs.laying.lay_groups.Goals.{After-finish}
+
+-- the groups of the records
+abbrev groups_of : (g : _) → After-finish g → List (List (List ℕ))
+groups_of g c = groups (records_cut c.args.values.now c.args.ends.now) c.args.grouper.size c.args.grouper.every
+
+same_groups : (g : _) (c : After-finish g)
+    → groups_from c.args.grouper (records_cut c.args.values.now c.args.ends.now) ≡ groups_of g c
+same_groups g c = new-groups c.args.grouper (records_cut c.args.values.now c.args.ends.now) c.requires.new
+
+-- the chunks of those that closed are laid, and behind these comes the open one, if there is one
+closed_laid : (g : _) (c : After-finish g)
+    → AreLaidBy (g.M.Sink.taken c.args.made.now) (g.M.Sink.taken c.lay_closed.new.made)
+    c.args.writer.now c.lay_closed.new.writer (chunks_of_groups (groups_laid false (groups_of g c)))
+closed_laid g c =
+    subst
+    (λ (all : List (List (List ℕ))). AreLaidBy (g.M.Sink.taken c.args.made.now) (g.M.Sink.taken c.lay_closed.new.made)
+    c.args.writer.now c.lay_closed.new.writer (chunks_of_groups (groups_laid false all)))
+    (same_groups g c) c.in_ok-lay_closed.ensures.laid.whole
+
+open_behind : (g : _) (c : After-finish g) → groups_of g c ≡ groups_laid false (groups_of g c) ++ option_to_list c.finish.result
+open_behind g c =
+    let all = groups_from c.args.grouper (records_cut c.args.values.now c.args.ends.now) in
+    subst (λ (gs : List (List (List ℕ))). gs ≡ groups_laid false gs ++ option_to_list c.finish.result) (same_groups g c)
+    (c.in_ok-lay_closed.ensures.behind ∙ ap (λ (more : List (List (List ℕ))). groups_laid false all ++ more) c.finish.ensures.rest)
+
+-- with its chunk they are all, where no record follows
+all_chunks : (g : _) (c : After-finish g) (group : List (List ℕ)) → c.finish.result ≡ Some group → c.args.last ≡ true
+    → chunks_of_groups (groups_laid false (groups_of g c)) ++ simple_chunk group ∷ []
+    ≡ chunks_of_groups (groups_laid c.args.last (groups_of g c))
+all_chunks g c group is all =
+    chunks-push (groups_of g c) (groups_laid false (groups_of g c)) group (rw is at (open_behind g c))
+    ∙ ap (λ (last : Bool). chunks_of_groups (groups_laid last (groups_of g c))) (sym all)
 
 pub returns-in_err-lay_closed-clause-laid : goal.returns-in_err-lay_closed-clause-laid
 returns-in_err-lay_closed-clause-laid g c =
@@ -40,59 +73,45 @@ returns-in_err-lay_closed-clause-laid g c =
 
 pub returns-in_default-clause-laid : goal.returns-in_default-clause-laid
 returns-in_default-clause-laid g c =
-    let rs = records_cut c.args.values.now c.args.ends.now in
-    let gs = groups rs c.args.grouper.size c.args.grouper.every in
-    let same = new-groups c.args.grouper rs c.requires.new in
-    let laid = subst
-    (λ (all : List (List (List ℕ))). AreLaidBy (g.M.Sink.taken c.args.made.now) (g.M.Sink.taken c.lay_closed.new.made) c.args.writer.now c.lay_closed.new.writer
-    (chunks_of_groups (groups_laid false all)))
-    same c.in_ok-lay_closed.ensures.laid.whole in
-    let finished : groups_from c.lay_closed.new.grouper [] ≡ [] = rw c.in_default.is at c.finish.ensures.rest in
-    let behind = subst (λ (all : List (List (List ℕ))). all ≡ groups_laid false all ++ ([])) same
-    (c.in_ok-lay_closed.ensures.behind ∙ ap (λ (more : List (List (List ℕ))). groups_laid false (groups_from c.args.grouper rs) ++ more) finished) in
+    let s = (goal.at.returns-in_default-clause-laid g c).After-finish in
+    let gs = groups_of g s in
     lays-ok g.M.Sink.taken g.M.Sink.lent g.M.Sink.faults 0 c.args.writer.now c.lay_closed.new.writer (chunks_of_groups (groups_laid c.args.last gs)) c.args.made.now c.lay_closed.new.made (λ is. cc is)
     (subst (λ (laid : List (List (List ℕ))). AreLaidBy (g.M.Sink.taken c.args.made.now) (g.M.Sink.taken c.lay_closed.new.made) c.args.writer.now c.lay_closed.new.writer (chunks_of_groups laid))
-    (none-held c.args.last gs behind) laid)
+    (none-held c.args.last gs (rw c.in_default.is at (open_behind g s))) (closed_laid g s))
     c.in_ok-lay_closed.ensures.laid.counts
 
 pub returns-in_default-clause-held : goal.returns-in_default-clause-held
 returns-in_default-clause-held g c =
+    let s = (goal.at.returns-in_default-clause-held g c).After-finish in
     let rs = records_cut c.args.values.now c.args.ends.now in
-    let gs = groups rs c.args.grouper.size c.args.grouper.every in
-    let same = new-groups c.args.grouper rs c.requires.new in
-    let finished : groups_from c.lay_closed.new.grouper [] ≡ [] = rw c.in_default.is at c.finish.ensures.rest in
-    let behind = subst (λ (all : List (List (List ℕ))). all ≡ groups_laid false all ++ ([])) same
-    (c.in_ok-lay_closed.ensures.behind ∙ ap (λ (more : List (List (List ℕ))). groups_laid false (groups_from c.args.grouper rs) ++ more) finished) in
-    omega (arith, count-none c.args.last rs c.args.grouper.size c.args.grouper.every behind, length-records_from 0 c.args.ends.now c.args.values.now)
+    omega (
+      arith,
+      count-none c.args.last rs c.args.grouper.size c.args.grouper.every (rw c.in_default.is at (open_behind g s)),
+      length-records_from 0 c.args.ends.now c.args.values.now,
+    )
 
 pub returns-then-not-last-clause-laid : goal.returns-then-not-last-clause-laid
 returns-then-not-last-clause-laid g c =
-    let rs = records_cut c.args.values.now c.args.ends.now in
-    let gs = groups rs c.args.grouper.size c.args.grouper.every in
-    let same = new-groups c.args.grouper rs c.requires.new in
-    let laid = subst
-    (λ (all : List (List (List ℕ))). AreLaidBy (g.M.Sink.taken c.args.made.now) (g.M.Sink.taken c.lay_closed.new.made) c.args.writer.now c.lay_closed.new.writer
-    (chunks_of_groups (groups_laid false all)))
-    same c.in_ok-lay_closed.ensures.laid.whole in
+    let s = (goal.at.returns-then-not-last-clause-laid g c).After-finish in
+    let gs = groups_of g s in
     let more : c.args.last ≡ false = search rules in
     lays-ok g.M.Sink.taken g.M.Sink.lent g.M.Sink.faults c.len.result c.args.writer.now c.lay_closed.new.writer (chunks_of_groups (groups_laid c.args.last gs)) c.args.made.now c.lay_closed.new.made (λ is. cc is)
-    (subst (λ (last : Bool). AreLaidBy (g.M.Sink.taken c.args.made.now) (g.M.Sink.taken c.lay_closed.new.made) c.args.writer.now c.lay_closed.new.writer (chunks_of_groups (groups_laid last gs))) (sym more) laid)
+    (subst
+    (λ (last : Bool). AreLaidBy (g.M.Sink.taken c.args.made.now) (g.M.Sink.taken c.lay_closed.new.made)
+    c.args.writer.now c.lay_closed.new.writer (chunks_of_groups (groups_laid last gs)))
+    (sym more) (closed_laid g s))
     c.in_ok-lay_closed.ensures.laid.counts
 
 pub returns-then-not-last-clause-held : goal.returns-then-not-last-clause-held
 returns-then-not-last-clause-held g c =
+    let s = (goal.at.returns-then-not-last-clause-held g c).After-finish in
     let rs = records_cut c.args.values.now c.args.ends.now in
-    let gs = groups rs c.args.grouper.size c.args.grouper.every in
-    let same = new-groups c.args.grouper rs c.requires.new in
-    let finished : groups_from c.lay_closed.new.grouper [] ≡ c.in-Some.group ∷ [] = rw c.in-Some.is at c.finish.ensures.rest in
-    let behind = subst (λ (all : List (List (List ℕ))). all ≡ groups_laid false all ++ (c.in-Some.group ∷ [])) same
-    (c.in_ok-lay_closed.ensures.behind ∙ ap (λ (more : List (List (List ℕ))). groups_laid false (groups_from c.args.grouper rs) ++ more) finished) in
     let more : c.args.last ≡ false = search rules in
     subst (λ (last : Bool). c.len.result + length (records_laid rs c.args.grouper.size c.args.grouper.every last) ≡ length c.args.ends.now) (sym more)
     (omega (
       arith,
       c.len.ensures,
-      count-held rs c.in-Some.group c.args.grouper.size c.args.grouper.every behind,
+      count-held rs c.in-Some.group c.args.grouper.size c.args.grouper.every (rw c.in-Some.is at (open_behind g s)),
       length-records_from 0 c.args.ends.now c.args.values.now,
     ))
 
@@ -110,46 +129,28 @@ lay_group-requires-clause-may_reach g c =
 
 pub returns-in_err-lay_group-clause-laid : goal.returns-in_err-lay_group-clause-laid
 returns-in_err-lay_group-clause-laid g c =
-    let rs = records_cut c.args.values.now c.args.ends.now in
-    let gs = groups rs c.args.grouper.size c.args.grouper.every in
-    let same = new-groups c.args.grouper rs c.requires.new in
-    let laid = subst
-    (λ (all : List (List (List ℕ))). AreLaidBy (g.M.Sink.taken c.args.made.now) (g.M.Sink.taken c.lay_closed.new.made) c.args.writer.now c.lay_closed.new.writer
-    (chunks_of_groups (groups_laid false all)))
-    same c.in_ok-lay_closed.ensures.laid.whole in
-    let finished : groups_from c.lay_closed.new.grouper [] ≡ c.in-Some.group ∷ [] = rw c.in-Some.is at c.finish.ensures.rest in
-    let behind = subst (λ (all : List (List (List ℕ))). all ≡ groups_laid false all ++ (c.in-Some.group ∷ [])) same
-    (c.in_ok-lay_closed.ensures.behind ∙ ap (λ (more : List (List (List ℕ))). groups_laid false (groups_from c.args.grouper rs) ++ more) finished) in
-    let all : c.args.last ≡ true = search rules in
+    let s = (goal.at.returns-in_err-lay_group-clause-laid g c).After-finish in
     let p = err_from_is_err_and c.from_residual-in_err-lay_group.result c.from_residual-in_err-lay_group.ensures.1 in
     let made = λ (is : c.from_residual-in_err-lay_group.result ≡ Err Made). let m : c.in_err-lay_group.field-0.0 ≡ Made = cc (p.1, p.2, is) in m in
     lays-err g.M.Sink.taken g.M.Sink.lent g.M.Sink.faults c.from_residual-in_err-lay_group.result p.0 c.args.writer.now c.lay_group.new.writer _ c.args.made.now c.lay_group.new.made p.1
     (λ is.
     subst (λ (ks : List ChunkValue). TakesShort (g.M.Sink.taken c.args.made.now) (g.M.Sink.taken c.lay_group.new.made) (laid_each c.args.writer.now.position ks))
-    (chunks-push gs (groups_laid false gs) c.in-Some.group behind ∙ ap (λ (last : Bool). chunks_of_groups (groups_laid last gs)) (sym all))
+    (all_chunks g s c.in-Some.group c.in-Some.is (search rules))
     (short-then (g.M.Sink.taken c.args.made.now) (g.M.Sink.taken c.lay_closed.new.made) (g.M.Sink.taken c.lay_group.new.made) c.args.writer.now c.lay_closed.new.writer
-    (chunks_of_groups (groups_laid false gs)) (simple_chunk c.in-Some.group ∷ []) laid (c.in_err-lay_group.ensures.short (ap Err (made is)))))
+    (chunks_of_groups (groups_laid false (groups_of g s))) (simple_chunk c.in-Some.group ∷ []) (closed_laid g s)
+    (c.in_err-lay_group.ensures.short (ap Err (made is)))))
     (counts-then g.M.Sink.lent g.M.Sink.faults c.args.made.now c.lay_closed.new.made c.lay_group.new.made c.in_ok-lay_closed.ensures.laid.counts
     (counts-where g.M.Sink.lent g.M.Sink.faults c.lay_closed.new.made c.lay_group.new.made c.in_err-lay_group.ensures.counts (λ is. ap Err (made is))))
 
 pub returns-clause-laid : goal.returns-clause-laid
 returns-clause-laid g c =
-    let rs = records_cut c.args.values.now c.args.ends.now in
-    let gs = groups rs c.args.grouper.size c.args.grouper.every in
-    let same = new-groups c.args.grouper rs c.requires.new in
-    let laid = subst
-    (λ (all : List (List (List ℕ))). AreLaidBy (g.M.Sink.taken c.args.made.now) (g.M.Sink.taken c.lay_closed.new.made) c.args.writer.now c.lay_closed.new.writer
-    (chunks_of_groups (groups_laid false all)))
-    same c.in_ok-lay_closed.ensures.laid.whole in
-    let finished : groups_from c.lay_closed.new.grouper [] ≡ c.in-Some.group ∷ [] = rw c.in-Some.is at c.finish.ensures.rest in
-    let behind = subst (λ (all : List (List (List ℕ))). all ≡ groups_laid false all ++ (c.in-Some.group ∷ [])) same
-    (c.in_ok-lay_closed.ensures.behind ∙ ap (λ (more : List (List (List ℕ))). groups_laid false (groups_from c.args.grouper rs) ++ more) finished) in
-    let all : c.args.last ≡ true = search rules in
+    let s = (goal.at.returns-clause-laid g c).After-finish in
+    let gs = groups_of g s in
     lays-ok g.M.Sink.taken g.M.Sink.lent g.M.Sink.faults 0 c.args.writer.now c.lay_group.new.writer (chunks_of_groups (groups_laid c.args.last gs)) c.args.made.now c.lay_group.new.made (λ is. cc is)
     (subst (λ (ks : List ChunkValue). AreLaidBy (g.M.Sink.taken c.args.made.now) (g.M.Sink.taken c.lay_group.new.made) c.args.writer.now c.lay_group.new.writer ks)
-    (chunks-push gs (groups_laid false gs) c.in-Some.group behind ∙ ap (λ (last : Bool). chunks_of_groups (groups_laid last gs)) (sym all))
+    (all_chunks g s c.in-Some.group c.in-Some.is (search rules))
     (laid-then (g.M.Sink.taken c.args.made.now) (g.M.Sink.taken c.lay_closed.new.made) (g.M.Sink.taken c.lay_group.new.made) c.args.writer.now c.lay_closed.new.writer c.lay_group.new.writer
-    (chunks_of_groups (groups_laid false gs)) (simple_chunk c.in-Some.group ∷ []) laid c.in_ok-lay_group.ensures.whole))
+    (chunks_of_groups (groups_laid false gs)) (simple_chunk c.in-Some.group ∷ []) (closed_laid g s) c.in_ok-lay_group.ensures.whole))
     (counts-then g.M.Sink.lent g.M.Sink.faults c.args.made.now c.lay_closed.new.made c.lay_group.new.made c.in_ok-lay_closed.ensures.laid.counts c.in_ok-lay_group.ensures.counts)
 
 pub returns-clause-held : goal.returns-clause-held
