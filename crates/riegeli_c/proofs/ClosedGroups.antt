@@ -1,16 +1,14 @@
 -- The chunks of groups that are laid as records come.
-use Rattle.std.proofs.Common.{◌≡◌, ◌≢◌, ◌∙◌, ℕ, ◌+◌, ◌-◌, ◌*◌, ◌^◌, ◌≤◌, Bool, true, false, Option, Some, None, List, [], ◌∷◌, ◌++◌, length, drop, refl, sym, ap, subst, append-nil, append_assoc, length-append, arith}
+use Rattle.std.proofs.Common.{◌≡◌, ◌≢◌, ◌∙◌, ℕ, ◌+◌, ◌-◌, ◌^◌, ◌≤◌, Bool, true, false, Option, Some, None, List, [], ◌∷◌, ◌++◌, length, drop, refl, sym, ap, subst, append-nil, append_assoc, length-append, arith}
 use Rattle.std.proofs.Math.Dec.{eqb}
 use Rattle.std.specs.Option.{IfSome, option_to_list}
-use Rattle.std.specs.List.{flat_map}
-use Rattle.std.proofs.lemmas.Bool.{cond_both, cond-true, eqb-true, eqb-false}
+use Rattle.std.proofs.lemmas.Bool.{cond_both, cond-true, eqb-true}
 use Rattle.std.proofs.lemmas.Grind.{flat_map-append}
 use Rattle.std.proofs.lemmas.List.{nil_from_length, map-append, take-append-drop}
 use Rattle.record_io.specs.Outside.{TakesShort}
 use Rattle.chunk_header.specs.Chunks.{ChunkValue}
 use Rattle.chunk_header.specs.SimpleChunks.{simple_chunk}
-use Rattle.meta_chunk.specs.Files.{end_of_chunks, laid_each}
-use Rattle.simple_chunk.specs.Costs.{cost_of}
+use Rattle.meta_chunk.specs.Files.{laid_each}
 use Rattle.ordered_writer.specs.Writers.{Writer}
 use Rattle.record_group.specs.Groups.{closes_before, groups_after, groups}
 use Rattle.record_group.specs.Groupings.{Grouping, IsPush, groups_from, new_grouping}

@@ -1,5 +1,5 @@
 -- Chunks that are laid by way of a writer and a sink, one after another.
-use Rattle.std.proofs.Common.{◌≡◌, ◌∙◌, ℕ, Bool, false, Option, Some, None, Result, Ok, Err, List, [], ◌∷◌, ◌++◌, ◌<◌, ◌≤◌, ◌^◌, ◌-◌, length, refl, sym, ap, subst, inl, inr, append-nil, arith}
+use Rattle.std.proofs.Common.{◌≡◌, ◌∙◌, ℕ, Bool, false, Option, Result, Ok, Err, List, [], ◌∷◌, ◌++◌, ◌≤◌, length, refl, sym, ap, subst, inl, inr, append-nil, arith}
 use Rattle.std.specs.Prelude.{IsErr}
 use Rattle.std.proofs.lemmas.List.{nil_from_length}
 use Rattle.record_io.specs.Outside.{Rose, Takes, TakesShort}

@@ -1,4 +1,4 @@
-use Rattle.std.proofs.Common.{◌≡◌, ℕ, ◌^◌, ◌≤◌, refl, subst, arith}
+use Rattle.std.proofs.Common.{ℕ, refl, subst, arith}
 use Rattle.std.specs.Prelude.{IsErr}
 use Rattle.std.proofs.lemmas.Result.{err_from_is_err_and}
 use Rattle.record_group.specs.Groups.{padding_if}

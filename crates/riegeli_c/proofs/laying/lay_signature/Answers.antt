@@ -1,4 +1,4 @@
-use Rattle.std.proofs.Common.{◌≡◌, ◌∙◌, ◌<◌, List, [], sym, subst, arith}
+use Rattle.std.proofs.Common.{◌≡◌, ◌<◌, List, sym, subst, arith}
 use Rattle.chunk_header.specs.Chunks.{ChunkValue}
 use Rattle.riegeli_c.specs.Laying.{AreLaidBy}
 use Rattle.riegeli_c.proofs.LaidBy.{lays-ok, lays-puts, none-laid, counts-same}

@@ -3,7 +3,6 @@ use Rattle.std.specs.Result.{IfOk}
 use Rattle.std.proofs.lemmas.Result.{IfOk-weaker}
 use Rattle.meta_chunk.specs.Files.{laid_each}
 use Rattle.riegeli_c.specs.Writes.{chunks_told, records_cut}
-use Rattle.riegeli_c.specs.declared.writing.WrittenTold.{WrittenTold}
 use Rattle.riegeli_c.proofs.WriteSteps.{in-room}
 use Rattle.riegeli_c.proofs.writing.write_into.Goals as goal
 
