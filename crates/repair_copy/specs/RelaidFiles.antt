@@ -1,4 +1,4 @@
--- Inside. The file of the pieces of a damaged one. Own.
+-- Promise. The file of the pieces of a damaged one. Own.
 use Rattle.std.specs.Prelude.{ℕ, List, ◌∷◌}
 use Rattle.meta_chunk.specs.Files.{signature, laid_each}
 use Rattle.damage_skip.specs.Pieces.{Piece}

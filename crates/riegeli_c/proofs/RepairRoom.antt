@@ -12,7 +12,8 @@ use Rattle.damage_skip.proofs.WalkedTo.{rest_of}
 use Rattle.repair_copy.specs.RelaidFiles.{relaid}
 use Rattle.repair_copy.specs.RepairPuts.{chunks_in, puts_from, repair_puts}
 use Rattle.repair_copy.proofs.RepairPuts.{repair_puts-append, made_in-repair, notes_in-repair}
-use Rattle.riegeli_c.specs.Repairs.{TakesLess, told_lines}
+use Rattle.riegeli_c.specs.Repairing.{TakesLess}
+use Rattle.riegeli_c.specs.Repairs.{told_lines}
 
 -- a byte that goes to a stream is one of its bytes
 own_byte : (stream : Stream) (byte : ℕ) (rest : List Put) → bytes_to stream (record { to = stream; byte = byte } ∷ rest) ≡ byte ∷ bytes_to stream rest

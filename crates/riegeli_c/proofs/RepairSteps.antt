@@ -25,7 +25,8 @@ use Rattle.repair_copy.specs.declared.repairs.RepairEnd.TheVariants as repair
 use Rattle.repair_copy.proofs.RepairPuts.{made_in-repair, notes_in-repair}
 use Rattle.riegeli_c.proofs.RepairRoom.{made_less, lines_less}
 use Rattle.riegeli_c.proofs.Told.{shown}
-use Rattle.riegeli_c.specs.Repairs.{TakesRepair, MeasuresRepair, TakesLess, LoadsWalkedChunk, told_lines}
+use Rattle.riegeli_c.specs.Repairing.{TakesLess}
+use Rattle.riegeli_c.specs.Repairs.{TakesRepair, MeasuresRepair, LoadsWalkedChunk, told_lines}
 use Rattle.riegeli_c.specs.declared.repairing.RepairTold.{RepairTold}
 
 -- a function answers of a region whether it has no more than so many bytes

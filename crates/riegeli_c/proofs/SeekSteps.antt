@@ -13,7 +13,8 @@ use Rattle.record_seek.specs.Met.{IsMetRecord}
 use Rattle.record_seek.proofs.OneHolder.{holder_is_one, holder_or_fault}
 use Rattle.record_seek.specs.declared.chunk_records.Found.{Found}
 use Rattle.seek_command.specs.Searches.{IsBelow, MayFind}
-use Rattle.riegeli_c.specs.Seeks.{HoldsFound, IsRecordOf, TellsSought, TellsFound}
+use Rattle.riegeli_c.specs.Seeking.{HoldsFound}
+use Rattle.riegeli_c.specs.Seeks.{IsRecordOf, TellsSought, TellsFound}
 use Rattle.riegeli_c.specs.declared.seeking.FoundAt.{FoundAt}
 
 -- chunks lead onward

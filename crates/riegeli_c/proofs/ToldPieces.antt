@@ -8,7 +8,8 @@ use Rattle.meta_chunk.specs.Kinds.{IsMetadata}
 use Rattle.damage_skip.specs.Pieces.{PieceKind, Records, Kept, SignatureOrPadding, Skipped, Piece, IsFoundAs, IsPieceOf, AreTiles, records_of}
 use Rattle.damage_skip.proofs.OnePiece.{piece_one, piece_past}
 use Rattle.riegeli_c.specs.Reasons.{reason_number}
-use Rattle.riegeli_c.specs.Recovers.{IsBadBegin, IsNumbered, TellsPiece, AreToldFrom}
+use Rattle.riegeli_c.specs.Pieces.{AreToldFrom}
+use Rattle.riegeli_c.specs.Recovers.{IsBadBegin, IsNumbered, TellsPiece}
 use Rattle.riegeli_c.specs.declared.recovering.PieceTold.{PieceTold}
 
 -- the front of a file may be asked for

@@ -16,7 +16,7 @@ use Rattle.damage_skip.specs.Pieces.{PieceKind, Records, Kept, SignatureOrPaddin
 use Rattle.damage_skip.proofs.FoundRecords.{records_in_events, placed_in_events}
 use Rattle.damage_skip.proofs.KeptChunks.{compressed_holds_none}
 use Rattle.damage_skip.proofs.Tiles.{events_one}
-use Rattle.riegeli_c.specs.Recovers.{unkept_as, unkept_kind, unkept}
+use Rattle.riegeli_c.specs.Pieces.{unkept_as, unkept_kind, unkept}
 
 -- a chunk that isn't left unread
 abbrev IsRead : ChunkValue → Type 0

@@ -1,7 +1,9 @@
 -- The steps of a call that writes.
-use Rattle.std.proofs.Common.{◌≡◌, ◌∙◌, ℕ, ◌+◌, ◌-◌, ◌≤◌, Bool, ◌&&◌, Option, Some, Result, Ok, Err, List, [], ◌++◌, length, take, drop, refl, sym, ap, subst, length-append, arith}
+use Rattle.std.proofs.Common.{◌≡◌, ◌∙◌, ℕ, ◌+◌, ◌-◌, ◌≤◌, Bool, ◌&&◌, Option, Some, None, Result, Ok, Err, List, [], ◌++◌, length, take, drop, refl, sym, ap, subst, length-append, inl, inr, arith}
 use Rattle.std.specs.Result.{IfOk, OnOk}
+use Rattle.std.proofs.lemmas.Bool.{cases_lt, cond-false, ne_eqb}
 use Rattle.std.proofs.lemmas.List.{take_at, take-append-drop}
+use Rattle.std.proofs.lemmas.Option.{none-some, same_Some}
 use Rattle.std.specs.Prelude.{◌==◌}
 use Rattle.record_io.specs.Outside.{Takes, TakesShort}
 use Rattle.chunk_header.specs.Chunks.{ChunkValue}
@@ -9,13 +11,13 @@ use Rattle.meta_chunk.specs.Files.{end_of_chunks, laid_each}
 use Rattle.meta_chunk.proofs.Joins.{end-laid_each}
 use Rattle.ordered_writer.specs.Writers.{Writer}
 use Rattle.record_group.specs.Groups.{groups, padding_if, pads_start, pads_end}
-use Rattle.record_group.specs.Groupings.{Grouping}
+use Rattle.record_group.specs.Groupings.{Grouping, MayLimit}
 use Rattle.record_writer.specs.MadeFiles.{chunks_of_groups}
 use Rattle.riegeli_c.specs.declared.laying.LayEnd.{LayEnd}
 use Rattle.riegeli_c.specs.declared.writing.OptionsTold.{OptionsTold}
 use Rattle.riegeli_c.specs.declared.writing.WrittenTold.{WrittenTold}
 use Rattle.riegeli_c.specs.Laying.{AreLaidBy}
-use Rattle.riegeli_c.specs.Writes.{TellsWritten, chunks_told, every_told, groups_laid, pad_told, records_laid, signature_at}
+use Rattle.riegeli_c.specs.Writes.{AreGoodOptions, TellsWritten, chunks_told, every_told, groups_laid, pad_told, records_laid, signature_at}
 use Rattle.riegeli_c.proofs.LaidBy.{laid-then, short-then, short-longer, position}
 
 -- what a call that writes makes of its arguments: a writer at the place, whether padding is wanted before, and the limits of groups
@@ -31,6 +33,29 @@ pub count-told : {place : ℕ} {options : OptionsTold} {writer : Writer} {starts
     → held + length (records_laid records grouper.size grouper.every (last == 1)) ≡ count
     → held + length (records_laid records options.chunk (every_told options.every) (last == 1)) ≡ count
 count-told ready records last held count is = rw (ready.size_is, ready.every_is) at is
+
+-- a number of records that is told is at least 1
+every_some : (count n : ℕ) → every_told count ≡ Some n → (1 ≤ n) × (count ≡ n)
+every_some count n is =
+    elim (cases_lt 0 count) [
+      | inl some ↦
+          let there : every_told count ≡ Some count = cond-false (count == 0) None (Some count) (ne_eqb count 0 (λ same. omega (arith, some, same))) in
+          let same : count ≡ n = same_Some count n (sym there ∙ is) in
+          (omega (arith, some, same), same)
+      | inr none ↦
+          let nothing : count ≡ 0 = omega (arith, none) in
+          absurd (none-some n (sym (ap every_told nothing) ∙ is))
+    ]
+
+-- options within their limits are those that groups may be limited to
+pub may_limit : (options : OptionsTold) (every : Option ℕ) → AreGoodOptions options → every ≡ every_told options.every
+    → MayLimit options.chunk every
+may_limit options every good is = record {
+  some_size = good.some_size;
+  size_at_most = good.size;
+  some_records = λ n there. (every_some options.every n (sym is ∙ there)).0;
+  every_at_most = λ n there. omega (arith, good.every, (every_some options.every n (sym is ∙ there)).1);
+}
 
 module _ (a b : Option (List ℕ)) (u v : Writer) (place : ℕ) (records : List (List ℕ)) (options : OptionsTold) (last : ℕ)
     (starts : Bool) (grouper : Grouping) (ready : IsReady place options u starts grouper) where

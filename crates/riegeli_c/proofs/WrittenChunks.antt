@@ -16,7 +16,8 @@ use Rattle.record_group.specs.declared.pad.Pad.{Pad}
 use Rattle.record_group.specs.declared.pad.Pad.TheVariants.{No, Start, End, Both}
 use Rattle.record_group.specs.Groups.{groups, pads_start, pads_end, padding_if, front_padding, record_chunks, chunks_of, file_of}
 use Rattle.record_group.proofs.Signed.{end_of_chunk-signature}
-use Rattle.riegeli_c.specs.Writes.{groups_laid, records_laid, signature_at, first_laid, grouped_laid, chunks_laid, pad_behind}
+use Rattle.riegeli_c.specs.Writes.{groups_laid, records_laid, signature_at, first_laid, grouped_laid, chunks_laid}
+use Rattle.riegeli_c.specs.WritingOn.{pad_behind}
 use Rattle.riegeli_c.proofs.HeldGroups.{groups-more}
 use Rattle.riegeli_c.proofs.LaidBy.{laid-one}
 

@@ -1,4 +1,4 @@
--- Inside. Chunks as they are told to C. Own.
+-- Promise. Chunks as they are told to C. Own.
 use Rattle.std.specs.Prelude.{◌≡◌, ℕ, ◌+◌, ◌^◌, ◌<◌, ◌⊎◌, true, List, [], ◌∷◌, length, take}
 use Rattle.std.specs.List.{concat}
 use Rattle.block_layout.specs.Layout.{IsBoundary}

@@ -1,4 +1,4 @@
--- Inside. Faults as they are told to C. Own.
+-- Promise. Faults as they are told to C. Own.
 use Rattle.std.specs.Prelude.{◌≡◌, ℕ, true, ◌⊎◌, List}
 use Rattle.chunk_reader.specs.Faults.{BeginsWithSignature, IsVerdict}
 use Rattle.chunk_reader.specs.declared.reasons.Fault.{Fault}

@@ -5,9 +5,13 @@ pub mod Judging
 pub mod Totals
 pub mod Splits
 pub mod Seeks
+pub mod Seeking
 pub mod Repairs
+pub mod Repairing
 pub mod Recovers
+pub mod Pieces
 pub mod Finding
 pub mod Writes
+pub mod WritingOn
 pub mod Laying
 pub mod LayingGroups

@@ -1,4 +1,4 @@
--- Inside. The numbers of reasons. Own.
+-- Promise. The numbers of reasons. Own.
 use Rattle.std.specs.Prelude.{ℕ}
 use Rattle.chunk_reader.specs.declared.reasons.Why.{Why}
 use Rattle.chunk_reader.specs.declared.reasons.Why.TheVariants as why

@@ -1,14 +1,11 @@
--- Inside. The pieces of a file that is read on past damage, as they are told to C. Own.
-use Rattle.std.specs.Prelude.{◌≡◌, ℕ, ◌^◌, ◌<◌, ◌⊎◌, ◌==◌, if◌then◌else◌, true, List, [], ◌∷◌, length}
+-- Promise. The pieces of a file that is read on past damage, as they are told to C. Own.
+use Rattle.std.specs.Prelude.{◌≡◌, ℕ, ◌^◌, ◌<◌, ◌⊎◌, true, List, length}
 use Rattle.std.specs.List.{concat}
 use Rattle.block_layout.specs.Layout.{IsBoundary}
-use Rattle.chunk_header.specs.Chunks.{ChunkValue}
-use Rattle.chunk_header.specs.Kinds.{simple_kind, transposed_kind}
 use Rattle.chunk_header.specs.SimpleChunks.{IsCompressed}
 use Rattle.meta_chunk.specs.Files.{IsTransposed}
 use Rattle.meta_chunk.specs.Kinds.{IsMetadata}
-use Rattle.chunk_reader.specs.declared.reasons.Why.TheVariants as why
-use Rattle.damage_skip.specs.Pieces.{PieceKind, Records, Kept, SignatureOrPadding, Skipped, Piece, IsPieceOf, records_of}
+use Rattle.damage_skip.specs.Pieces.{PieceKind, Records, Kept, SignatureOrPadding, Skipped, IsPieceOf, records_of}
 use Rattle.riegeli_c.specs.Chunks.{IsStatusFor}
 use Rattle.riegeli_c.specs.Reasons.{reason_number}
 use Rattle.riegeli_c.specs.declared.recovering.PieceTold.{PieceTold}
@@ -37,24 +34,3 @@ pub record TellsPiece (file : List ℕ) (place : ℕ) (kind : PieceKind) (told :
 abbrev pub IsStatusOf : PieceKind → (values ends : List ℕ) → (status : ℕ) → Type 0
 IsStatusOf (Skipped reason) values ends status = (status ≡ 1) ⊎ (status ≡ 3)
 IsStatusOf kind values ends status = IsStatusFor (records_of kind) values ends status
-
--- the pieces of a file from a place to its end, and what is told of each, where the next place is the end that is told
-abbrev pub AreToldFrom : List ℕ → (place : ℕ) → List PieceTold → List Piece → Type 0
-AreToldFrom file place [] pieces = (place ≡ length file) × (pieces ≡ [])
-AreToldFrom file place (told ∷ others) [] = ⊥
-AreToldFrom file place (told ∷ others) (piece ∷ pieces) =
-    (place < length file) × TellsPiece file place piece.what told × (piece.begin ≡ place) × (piece.end ≡ told.end)
-    × AreToldFrom file told.end others pieces
-
--- what a chunk that is kept is where unread ones are passed over
-abbrev pub unkept_as : ChunkValue → PieceKind
-unkept_as k =
-    if k.kind == transposed_kind then Skipped why.Transposed else if k.kind == simple_kind then Skipped why.Compressed else Kept k
-
-abbrev pub unkept_kind : PieceKind → PieceKind
-unkept_kind (Kept k) = unkept_as k
-unkept_kind other = other
-
--- the piece that is one where unread chunks are kept, as it is where they are passed over
-abbrev pub unkept : Piece → Piece
-unkept piece = record piece { what = unkept_kind piece.what }

@@ -1,5 +1,5 @@
--- Inside. What a repair gives, as it is told to C. Own.
-use Rattle.std.specs.Prelude.{◌≡◌, ℕ, ◌*◌, ◌-◌, ◌^◌, ◌<◌, ◌⊎◌, min, true, Option, Some, IfSome, List, length, take}
+-- Promise. What a repair gives, as it is told to C. Own.
+use Rattle.std.specs.Prelude.{◌≡◌, ℕ, ◌*◌, ◌-◌, ◌^◌, ◌<◌, ◌⊎◌, min, true, Option, Some, List, length, take}
 use Rattle.damage_skip.specs.Bounds.{walked, refused_in}
 use Rattle.damage_skip.specs.Pieces.{Piece, AreEvents}
 use Rattle.damage_skip.specs.Regions.{regions_in, skipped_text, IsWalkedTo}
@@ -42,12 +42,6 @@ pub record MeasuresRepair (file : List ℕ) (told : RepairTold) : Type 0 where
 -- the lines of the regions among events
 abbrev pub told_lines : List Piece → List ℕ
 told_lines events = skipped_text (regions_in events)
-
--- of a file's events those before the first region of more than so many bytes have more bytes than were taken, if it is shown what was
-pub record TakesLess (bytes_of : List Piece → List ℕ) (file : List ℕ) (most : ℕ) (taken : Option (List ℕ)) : Type 0 where
-  pub events : List Piece
-  pub are : AreEvents true file events
-  pub less : IfSome taken (λ bytes. length bytes < length (bytes_of (walked (Some most) events)))
 
 -- the file of these events, or the lines of their regions, have more bytes than there is room for
 pub record ExceedsRoom (file : List ℕ) (most made lines : ℕ) : Type 0 where

@@ -1,10 +1,9 @@
--- Inside. Records that are found, as they are told to C. Own.
+-- Promise. Records that are found, as they are told to C. Own.
 use Rattle.std.specs.Prelude.{◌≡◌, ℕ, ◌-◌, ◌≤◌, ◌⊎◌, Some, List, length, slice_get}
 use Rattle.chunk_reader.specs.PositionSearches.{HasRecordsAt, SearchGives}
 use Rattle.chunk_reader.specs.Holders.{IsHolder, IsHolderFault}
 use Rattle.chunk_reader.specs.declared.reasons.Fault.{Fault}
 use Rattle.seek_command.specs.Searches.{MayFind, IsKeyFault}
-use Rattle.record_seek.specs.declared.chunk_records.Found.{Found}
 use Rattle.riegeli_c.specs.declared.seeking.FoundAt.{FoundAt}
 
 -- the record of this number of a chunk without fault that begins at a place
@@ -31,9 +30,3 @@ abbrev pub IsFindFault : (file key : List ℕ) → Fault → Type 0
 IsFindFault file key fault =
     IsKeyFault file fault
     ⊎ ((position : ℕ) × (bytes : List ℕ) × MayFind key file (Some (position, bytes)) × IsHolderFault file position fault)
-
--- a record that was found is told with the chunk that holds its position
-pub record HoldsFound (file : List ℕ) (sought : Found) (told : FoundAt) : Type 0 where
-  pub position : told.position ≡ sought.position
-  pub size : told.bytes ≡ length sought.bytes
-  pub begin : IsHolder file sought.position told.begin

@@ -1,4 +1,4 @@
--- Inside. Where a file is split, to be read by many. Own.
+-- Promise. Where a file is split, to be read by many. Own.
 use Rattle.std.specs.Prelude.{◌≡◌, ℕ, ◌<◌, ◌≤◌, ◌⊎◌, List, length}
 use Rattle.chunk_header.specs.Chunks.{ChunkValue}
 use Rattle.meta_chunk.specs.Files.{begin_of}

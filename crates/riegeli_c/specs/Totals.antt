@@ -1,4 +1,4 @@
--- Inside. Totals as they are told to C. Own.
+-- Promise. Totals as they are told to C. Own.
 use Rattle.record_values.specs.declared.file_totals.Totals.{Totals}
 use Rattle.riegeli_c.specs.declared.reading.FileTotals.{FileTotals}
 

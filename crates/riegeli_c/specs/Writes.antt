@@ -1,4 +1,4 @@
--- Inside. What is written for C: the chunks of records from a place on. Own.
+-- Promise. What is written for C: the chunks of records from a place on. Own.
 use Rattle.std.specs.Prelude.{◌≡◌, ℕ, ◌+◌, ◌-◌, ◌^◌, ◌≤◌, ◌⊎◌, Bool, true, false, ◌&&◌, Option, Some, None, List, [], ◌∷◌, ◌++◌, length, map, take, ◌==◌, if◌then◌else◌}
 use Rattle.std.specs.List.{flat_map}
 use Rattle.block_layout.specs.Layout.{IsBoundary}
@@ -9,7 +9,6 @@ use Rattle.simple_chunk.specs.Records.{records_from}
 use Rattle.record_group.specs.declared.pad.Pad.{Pad}
 use Rattle.record_group.specs.declared.pad.Pad.TheVariants.{No, Start, End, Both}
 use Rattle.record_group.specs.Groups.{groups, pads_end, padding_if, front_padding}
-use Rattle.record_group.specs.Groupings.{MayLimit}
 use Rattle.riegeli_c.specs.declared.writing.OptionsTold.{OptionsTold}
 use Rattle.riegeli_c.specs.declared.writing.WrittenTold.{WrittenTold}
 
@@ -33,7 +32,9 @@ AreCuts begin (end ∷ ends) size = (begin ≤ end) × (end ≤ size) × (end �
 
 -- options within their limits
 pub record AreGoodOptions (options : OptionsTold) : Type 0 where
-  pub limits : MayLimit options.chunk (every_told options.every)
+  pub some_size : 1 ≤ options.chunk
+  pub size : options.chunk ≤ 2 ^ 24
+  pub every : options.every ≤ 2 ^ 24
   pub pad : options.pad ≤ 3
 
 -- a place that can be written at: a chunk may begin there, at a file's front or behind its signature, at most at 2 ^ 60
@@ -89,10 +90,3 @@ chunks_told place records options last =
 pub record TellsWritten (place : ℕ) (records : List (List ℕ)) (options : OptionsTold) (last : ℕ) (told : WrittenTold) : Type 0 where
   pub end : told.end ≡ end_of_chunks place (chunks_told place records options last)
   pub count : told.records ≡ length (records_laid records options.chunk (every_told options.every) (last == 1))
-
--- the padding that is wanted once a call has laid what stands before the chunks of records
-abbrev pub pad_behind : Pad → Pad
-pad_behind No = No
-pad_behind Start = No
-pad_behind End = End
-pad_behind Both = End

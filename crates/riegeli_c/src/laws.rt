@@ -3,7 +3,8 @@
 ghost use Rattle.std.specs.Prelude.{◌≡◌, ℕ, ◌^◌, ◌<◌, ◌≤◌, Bool, true, false, Option, List, ◌++◌, length, map, take, drop};
 ghost use Rattle.damage_skip.specs.FilePieces.{ArePieces, placed_in};
 ghost use Rattle.damage_skip.specs.Pieces.{PieceKind, Piece, AreTiles, events_in, AreEvents, records_in};
-ghost use Rattle.riegeli_c.specs.Recovers.{IsBadBegin, TellsPiece, AreToldFrom, unkept};
+ghost use Rattle.riegeli_c.specs.Pieces.{AreToldFrom, unkept};
+ghost use Rattle.riegeli_c.specs.Recovers.{IsBadBegin, TellsPiece};
 ghost use Rattle.meta_chunk.specs.Files.{end_of_chunks, laid_each};
 ghost use Rattle.record_group.specs.declared.pad.Pad.{Pad};
 ghost use Rattle.record_group.specs.Groups.{chunks_of, file_of, record_chunks};
@@ -11,7 +12,8 @@ ghost use lib.Chars.{codes};
 ghost use Rattle.damage_skip.specs.Regions.{region_text};
 ghost use Rattle.damage_skip.specs.declared.regions.Region.{Region};
 ghost use Rattle.riegeli_c.specs.Chunks.{AreGiven};
-ghost use Rattle.riegeli_c.specs.Writes.{AreCuts, chunks_laid, pad_behind, records_cut, records_laid};
+ghost use Rattle.riegeli_c.specs.Writes.{AreCuts, chunks_laid, records_cut, records_laid};
+ghost use Rattle.riegeli_c.specs.WritingOn.{pad_behind};
 
 use crate::recovering::PieceTold;
 

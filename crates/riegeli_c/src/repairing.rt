@@ -4,7 +4,8 @@ ghost use Rattle.damage_skip.specs.Bounds.{MaySkip, may_skip};
 ghost use Rattle.damage_skip.specs.declared.regions.Region.{Region};
 ghost use Rattle.repair_copy.specs.RelaidFiles.{relaid};
 ghost use Rattle.riegeli_c.specs.Reasons.{reason_number};
-ghost use Rattle.riegeli_c.specs.Repairs.{GivesRepair, StopsRepair, TakesRepair, MeasuresRepair, TakesLess, ExceedsRoom, LoadsWalkedChunk, told_lines};
+ghost use Rattle.riegeli_c.specs.Repairing.{TakesLess};
+ghost use Rattle.riegeli_c.specs.Repairs.{GivesRepair, StopsRepair, TakesRepair, MeasuresRepair, ExceedsRoom, LoadsWalkedChunk, told_lines};
 
 use crate::faults::reason_number;
 use crate::reading::MAX_SIZE;

@@ -9,7 +9,8 @@ ghost use Rattle.record_seek.specs.Met.{IsMetBySearch};
 ghost use Rattle.record_seek.specs.Steps.{LoadsMetChunk, placed_of};
 ghost use Rattle.seek_command.specs.Searches.{is_below, MayFind, IsKeyFault};
 ghost use Rattle.riegeli_c.specs.Faults.{TellsFault};
-ghost use Rattle.riegeli_c.specs.Seeks.{HoldsFound, IsRecordOf, TellsSought, TellsFound, IsFindFault};
+ghost use Rattle.riegeli_c.specs.Seeking.{HoldsFound};
+ghost use Rattle.riegeli_c.specs.Seeks.{IsRecordOf, TellsSought, TellsFound, IsFindFault};
 
 use crate::faults::FaultAt;
 use crate::reading::MAX_SIZE;

@@ -13,7 +13,7 @@ use Rattle.riegeli_c.specs.Writes.{chunks_told, pad_told, records_cut, signature
 use Rattle.riegeli_c.specs.declared.laying.LayEnd.TheVariants.{Made}
 use Rattle.riegeli_c.proofs.LaidBy.{position}
 use Rattle.riegeli_c.proofs.WrittenChunks.{first-near}
-use Rattle.riegeli_c.proofs.WriteSteps.{IsReady, count-told, short-first, short-groups, short-end, whole-written}
+use Rattle.riegeli_c.proofs.WriteSteps.{IsReady, count-told, may_limit, short-first, short-groups, short-end, whole-written}
 use Rattle.riegeli_c.proofs.writing.write.Goals as goal
 use Rattle.riegeli_c.proofs.writing.write.Goals.{After-lay_first, After-pads_end, In_ok-pad_if}
 
@@ -42,6 +42,9 @@ written g c is_ready ends =
     c.args.at (records_cut c.args.values.now c.args.ends.now) c.args.options.now c.args.last c.pads_start.result c.new-grouper.result is_ready
     (g.M.Sink.taken c.lay_groups.new.made) c.lay_groups.new.writer c.pads_end.result ends c.in_ok-lay_first.ensures.whole
     c.in_ok-held.ensures.laid.whole (g.M.Sink.taken c.pad_if.new.made) c.pad_if.new.writer c.in_ok-pad_if.ensures.whole
+
+pub new-grouper-requires : goal.new-grouper-requires
+new-grouper-requires g c = may_limit c.args.options.now c.every_told.result c.requires.good_options c.every_told.ensures
 
 pub returns-in_err-lay_first-clause-short : goal.returns-in_err-lay_first-clause-short
 returns-in_err-lay_first-clause-short g c = λ _.
