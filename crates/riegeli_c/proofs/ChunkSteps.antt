@@ -6,7 +6,7 @@ use Rattle.chunk_header.specs.Chunks.{ChunkValue}
 use Rattle.chunk_header.specs.SimpleChunks.{IsSimple}
 use Rattle.chunk_header.specs.Views.{value_of_chunk}
 use Rattle.chunk_header.proofs.OneList.{records_are_one}
-use Rattle.meta_chunk.specs.Files.{signature_bytes}
+use Rattle.meta_chunk.specs.Files.{signature_bytes, IsWellFormedChunk, Holds}
 use Rattle.meta_chunk.specs.Kinds.{IsSignature, IsMetadata, IsPadding}
 use Rattle.meta_chunk.proofs.Signature.{laid-signature}
 use Rattle.chunk_reader.specs.Places.{chunk_at}
@@ -44,6 +44,20 @@ given_or_passive : (k : ChunkValue) (records : List (List ℕ)) → IsSimple k r
 given_or_passive k records simple (inl signature) = given_or_left_out k records simple (inl signature)
 given_or_passive k records simple (inr (inl metadata)) = given_or_kept true k records simple (inl metadata)
 given_or_passive k records simple (inr (inr padding)) = given_or_left_out k records simple (inr padding)
+
+-- a chunk holds the records that it is told with
+pub told_held : (k : ChunkValue) (what : ℕ) (records : List (List ℕ)) → IsToldAs k what records → Holds k records
+told_held k what records (inl (one, simple)) = inl simple
+told_held k what records (inr (inl (two, passive, none))) = inr (λ has. given_or_passive k has.0 has.1 passive, none)
+told_held k what records (inr (inr (three, left, none))) = inr (λ has. given_or_kept true k has.0 has.1 (inr (refl, left)), none)
+
+-- and one that is read or left unread is told with those that it holds
+pub holds_told : (k : ChunkValue) (records : List (List ℕ)) → IsWellFormedChunk k → Holds k records → (what : ℕ) × IsToldAs k what records
+holds_told k records well_formed (inl simple) = (1, inl (refl, simple))
+holds_told k records (inl (small, inl has)) (inr (never, none)) = absurd (never has)
+holds_told k records (inl (small, inr passive)) (inr (never, none)) = (2, inr (inl (refl, passive, none)))
+holds_told k records (inr (small, inl transposed)) (inr (never, none)) = (3, inr (inr (refl, inr transposed, none)))
+holds_told k records (inr (small, inr compressed)) (inr (never, none)) = (3, inr (inr (refl, inl compressed, none)))
 
 -- the records that a chunk is told with are those that are given
 given_same : (k : ChunkValue) (what : What) (n : ℕ) (records : List (List ℕ)) → IsWhat true k what → IsToldAs k n records → records ≡ records_given what

@@ -1,6 +1,7 @@
 pub mod Told
 pub mod ChunkSteps
 pub mod SplitSteps
+pub mod PartSteps
 pub mod RecordEnds
 pub mod SeekSteps
 pub mod RepairRoom

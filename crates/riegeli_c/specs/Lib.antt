@@ -4,6 +4,7 @@ pub mod Chunks
 pub mod Judging
 pub mod Totals
 pub mod Splits
+pub mod Parts
 pub mod Seeks
 pub mod Seeking
 pub mod Repairs

@@ -1,11 +1,15 @@
 //! Laws of the definitions that contracts cite. Nothing runs here.
 
-ghost use Rattle.std.specs.Prelude.{◌≡◌, ℕ, ◌^◌, ◌<◌, ◌≤◌, Bool, true, false, Option, List, ◌++◌, length, map, take, drop};
+ghost use Rattle.std.specs.Prelude.{◌≡◌, ◌↔◌, ℕ, ◌^◌, ◌<◌, ◌≤◌, Bool, true, false, Option, List, [], ◌∷◌, ◌++◌, length, map, take, drop};
+ghost use Rattle.std.specs.List.{flat_map};
+ghost use Rattle.chunk_header.specs.Chunks.{ChunkValue};
 ghost use Rattle.damage_skip.specs.FilePieces.{ArePieces, placed_in};
 ghost use Rattle.damage_skip.specs.Pieces.{PieceKind, Piece, AreTiles, events_in, AreEvents, records_in};
+ghost use Rattle.riegeli_c.specs.Parts.{IsPart, ArePartsFrom};
 ghost use Rattle.riegeli_c.specs.Pieces.{AreToldFrom, unkept};
 ghost use Rattle.riegeli_c.specs.Recovers.{IsBadBegin, TellsPiece};
-ghost use Rattle.meta_chunk.specs.Files.{end_of_chunks, laid_each};
+ghost use Rattle.riegeli_c.specs.Splits.{IsFirstBegin};
+ghost use Rattle.meta_chunk.specs.Files.{IsWellFormed, ArePlaced, begin_of, end_of_chunks, laid_each};
 ghost use Rattle.record_group.specs.declared.pad.Pad.{Pad};
 ghost use Rattle.record_group.specs.Groups.{chunks_of, file_of, record_chunks};
 ghost use lib.Chars.{codes};
@@ -91,4 +95,21 @@ pub fn written_in_pieces()
         → records_laid (records ++ more) size every last
         ≡ records_laid records size every false
         ++ records_laid (drop (length (records_laid records size every false)) records ++ more) size every last }
+{}
+
+/// Where many read the parts of a file of chunks, each from where it is split at one position up to where it is split at the next,
+/// each chunk is read in the part in which it begins. So the parts between the front and the end, in order, have the records of
+/// the file with their positions, each once. A part is one list of records, and parts that meet are one. Own.
+pub fn parts_have_each_record_once()
+    ensures begins { (ks : List ChunkValue) (position place i : ℕ)
+        → IsFirstBegin ks position place → i < length ks → (position ≤ begin_of ks i) ↔ (place ≤ begin_of ks i) }
+    ensures some { (ks : List ChunkValue) (file : List ℕ) (from to : ℕ)
+        → IsWellFormed ks file → length file ≤ 2 ^ 60 → from ≤ to → (part : List (ℕ × List ℕ)) × IsPart ks file from to part }
+    ensures one { (ks : List ChunkValue) (file : List ℕ) (from to : ℕ) (a b : List (ℕ × List ℕ))
+        → IsPart ks file from to a → IsPart ks file from to b → a ≡ b }
+    ensures joined { (ks : List ChunkValue) (file : List ℕ) (from middle to : ℕ) (a b : List (ℕ × List ℕ))
+        → IsPart ks file from middle a → IsPart ks file middle to b → IsPart ks file from to (a ++ b) }
+    ensures whole { (ks : List ChunkValue) (file cuts : List ℕ) (parts : List (List (ℕ × List ℕ))) (placed : List (ℕ × List ℕ))
+        → IsWellFormed ks file → length file ≤ 2 ^ 60 → ArePlaced ks placed
+        → ArePartsFrom ks file 0 (cuts ++ length file ∷ []) parts → flat_map (λ part. part) parts ≡ placed }
 {}
