@@ -1,15 +1,19 @@
 -- What searches of a file that is lent find.
-use Rattle.std.proofs.Common.{◌≡◌, ◌∙◌, ℕ, ◌+◌, ◌-◌, ◌<◌, ◌≤◌, Some, List, [], ◌∷◌, length, sym, ap, subst, inl, inr, arith}
+use Rattle.std.proofs.Common.{◌≡◌, ◌∙◌, ℕ, ◌+◌, ◌-◌, ◌^◌, ◌<◌, ◌≤◌, Some, List, [], ◌∷◌, length, sym, ap, subst, inl, inr, arith}
 use Rattle.std.specs.Prelude.{slice_get}
 use Rattle.std.proofs.lemmas.Bool.{cases_lt}
 use Rattle.std.proofs.lemmas.Option.{slice_get_within}
 use Rattle.block_layout.proofs.ChunkEnds.{chunk_end_of_past_records}
+use Rattle.chunk_header.specs.Chunks.{ChunkValue}
+use Rattle.meta_chunk.specs.Files.{IsWellFormed, LiesIn, begin_of}
 use Rattle.chunk_reader.specs.Holders.{ArePlacesBetween, IsHolder, IsHolderFault}
 use Rattle.chunk_reader.specs.Places.{header_at, end_at}
 use Rattle.chunk_reader.specs.PositionSearches.{HasRecordsAt, SearchGives}
 use Rattle.chunk_reader.specs.declared.reasons.Fault.{Fault}
+use Rattle.chunk_reader.proofs.HeadersTell.{holder_is, stands_below, told_end}
 use Rattle.chunk_reader.proofs.PassedChunks.{end_at_after}
 use Rattle.record_seek.specs.Met.{IsMetRecord}
+use Rattle.record_seek.proofs.MetPlaces.{met_begin}
 use Rattle.record_seek.proofs.OneHolder.{holder_is_one, holder_or_fault}
 use Rattle.record_seek.specs.declared.chunk_records.Found.{Found}
 use Rattle.seek_command.specs.Searches.{IsBelow, MayFind}
@@ -77,22 +81,25 @@ sought-told file at begin told sought is same begins size behind stands = record
   size = size;
 }
 
--- a record that is found by its key lies in the file
+-- a record that is met lies before its chunk's end
+met-within : (file : List ℕ) (Before : List ℕ → Type 0) (position : ℕ) (bytes : List ℕ) (met : IsMetRecord file Before (position, bytes))
+    → position < end_at file met.place
+met-within file Before position bytes met =
+    omega (
+      arith,
+      met.position,
+      slice_get_within met.records met.number bytes met.stands,
+      met.holds.holds.num_records,
+      chunk_end_of_past_records met.place (40 + (header_at file met.place).data_size) (header_at file met.place).num_records,
+    )
+
+-- so one that is found by its key lies in the file
 pub found-below : (file key : List ℕ) (position : ℕ) (bytes : List ℕ) → MayFind key file (Some (position, bytes)) → position < length file
 found-below file key position bytes finds =
     let met : IsMetRecord file (IsBelow key) (position, bytes) = finds.met in
     elim (cases_lt position (length file)) [
       | inl below ↦ below
-      | inr past ↦
-          absurd (met.holds.without_fault.1.1.0
-          (omega (
-            arith,
-            past,
-            met.position,
-            slice_get_within met.records met.number bytes met.stands,
-            met.holds.holds.num_records,
-            chunk_end_of_past_records met.place (40 + (header_at file met.place).data_size) (header_at file met.place).num_records,
-          )))
+      | inr past ↦ absurd (met.holds.without_fault.1.1.0 (omega (arith, past, met-within file (IsBelow key) position bytes met)))
     ]
 
 pub found-told : (file key : List ℕ) (told : FoundAt) (sought : Found) → MayFind key file (Some (sought.position, sought.bytes))
@@ -102,3 +109,28 @@ found-told file key told sought finds holds = record {
   begin = subst (λ (p : ℕ). IsHolder file p told.begin) (sym holds.position) holds.begin;
   size = holds.size;
 }
+
+-- in a file of chunks it stands in the chunk that holds its position
+pub found-stands : (ks : List ChunkValue) (file key : List ℕ) (told : FoundAt) (bytes : List ℕ) → IsWellFormed ks file → length file ≤ 2 ^ 60
+    → TellsFound file key told bytes → (told.begin ≤ told.position) × IsRecordOf file told.begin (told.position - told.begin) bytes
+found-stands ks file key told bytes well_formed reach tells =
+    let met : IsMetRecord file (IsBelow key) (told.position, bytes) = tells.finds.met in
+    let (j, is) = met_begin ks well_formed reach met.met in
+    let within : told.position < end_at file met.place = met-within file (IsBelow key) told.position bytes met in
+    let below : told.position < length file = found-below file key told.position bytes tells.finds in
+    let k = stands_below ks file well_formed j (omega (arith, is, met.position, below)) in
+    let ends : end_at file met.place ≡ begin_of ks (j + 1) = ap (end_at file) is ∙ told_end ks file well_formed j k.0 k.1 in
+    let lies : LiesIn ks told.position j = record {
+      number = slice_get_within ks j k.0 k.1;
+      begins = omega (arith, is, met.position);
+      ends = omega (arith, within, ends);
+    } in
+    let begin : told.begin ≡ met.place = holder_is ks file well_formed told.position told.begin j reach lies tells.begin ∙ sym is in
+    let number : met.number ≡ told.position - told.begin = omega (arith, met.position, begin) in (
+      omega (arith, met.position, begin),
+      record {
+        records = met.records;
+        holds = subst (λ (p : ℕ). HasRecordsAt file p met.records) (sym begin) met.holds;
+        stands = ap (slice_get met.records) (sym number) ∙ met.stands;
+      },
+    )

@@ -1,6 +1,6 @@
 //! Laws of the definitions that contracts cite. Nothing runs here.
 
-ghost use Rattle.std.specs.Prelude.{◌≡◌, ◌↔◌, ℕ, ◌^◌, ◌<◌, ◌≤◌, Bool, true, false, Option, List, [], ◌∷◌, ◌++◌, length, map, take, drop};
+ghost use Rattle.std.specs.Prelude.{◌≡◌, ◌↔◌, ℕ, ◌-◌, ◌^◌, ◌<◌, ◌≤◌, Bool, true, false, Option, List, [], ◌∷◌, ◌++◌, length, map, take, drop};
 ghost use Rattle.std.specs.List.{flat_map};
 ghost use Rattle.chunk_header.specs.Chunks.{ChunkValue};
 ghost use Rattle.damage_skip.specs.FilePieces.{ArePieces, placed_in};
@@ -8,6 +8,7 @@ ghost use Rattle.damage_skip.specs.Pieces.{PieceKind, Piece, AreTiles, events_in
 ghost use Rattle.riegeli_c.specs.Parts.{IsPart, ArePartsFrom};
 ghost use Rattle.riegeli_c.specs.Pieces.{AreToldFrom, unkept};
 ghost use Rattle.riegeli_c.specs.Recovers.{IsBadBegin, TellsPiece};
+ghost use Rattle.riegeli_c.specs.Seeks.{IsRecordOf, TellsFound};
 ghost use Rattle.riegeli_c.specs.Splits.{IsFirstBegin};
 ghost use Rattle.meta_chunk.specs.Files.{IsWellFormed, ArePlaced, begin_of, end_of_chunks, laid_each};
 ghost use Rattle.record_group.specs.declared.pad.Pad.{Pad};
@@ -20,6 +21,7 @@ ghost use Rattle.riegeli_c.specs.Writes.{AreCuts, chunks_laid, records_cut, reco
 ghost use Rattle.riegeli_c.specs.WritingOn.{pad_behind};
 
 use crate::recovering::PieceTold;
+use crate::seeking::FoundAt;
 
 /// A file that is asked from 0 on, and then always where the piece ends that was told, is told piece by piece to its end: no place
 /// that is asked for is a bad one, each is past the one before, and one thing is told there. The pieces that are told are those
@@ -112,4 +114,12 @@ pub fn parts_have_each_record_once()
     ensures whole { (ks : List ChunkValue) (file cuts : List ℕ) (parts : List (List (ℕ × List ℕ))) (placed : List (ℕ × List ℕ))
         → IsWellFormed ks file → length file ≤ 2 ^ 60 → ArePlaced ks placed
         → ArePartsFrom ks file 0 (cuts ++ length file ∷ []) parts → flat_map (λ part. part) parts ≡ placed }
+{}
+
+/// In a file of chunks a record that is found by its key stands in the chunk that is told with it: that has no fault, and in it
+/// the record has the number by which its position is past the chunk's begin. Own.
+pub fn found_records_stand_in_their_chunks()
+    ensures { (ks : List ChunkValue) (file key : List ℕ) (told : FoundAt) (bytes : List ℕ)
+        → IsWellFormed ks file → length file ≤ 2 ^ 60 → TellsFound file key told bytes
+        → (told.begin ≤ told.position) × IsRecordOf file told.begin (told.position - told.begin) bytes }
 {}
