@@ -14,14 +14,12 @@ ghost use Rattle.riegeli_c.specs.Totals.{totals_told};
 use crate::faults::FaultAt;
 use block_layout::is_boundary;
 use chunk_reader::{Fault, Judged, ReadEnd, What, Why, strict_at, verify_front};
+use command_frame::MOST_FILE_BYTES;
 use meta_chunk::SIGNATURE;
 use record_io::Totals;
 use simple_chunk::Records;
 use slice_io::SliceStore;
 use std::alloc::Global;
-
-/// The most bytes of a file that is read.
-pub(crate) const MAX_SIZE: u64 = 1 << 60;
 
 /// What is counted over a file, or over its longest front without fault.
 #[repr(C)]
@@ -69,7 +67,7 @@ pub extern "C" fn riegeli_verify(file: &[u8], totals: &mut FileTotals, fault: &m
         → result ≡ 0 }
 {
     let size = file.len() as u64;
-    if size > MAX_SIZE {
+    if size > MOST_FILE_BYTES {
         return 2;
     }
     let mut store = SliceStore::new(file);
@@ -128,7 +126,7 @@ pub extern "C" fn riegeli_read_chunk(
     ensures exact { (records : List (List ℕ)) → HasChunkWith file.now at records → IsStatusFor records values.old ends.old result }
 {
     let size = file.len() as u64;
-    if size > MAX_SIZE || at > size || !is_boundary(at) {
+    if size > MOST_FILE_BYTES || at > size || !is_boundary(at) {
         return 2;
     }
     if !begins_right(file, at) {

@@ -7,9 +7,10 @@ ghost use Rattle.riegeli_c.specs.Finding.{IsStatusFound, TellsNext, records_foun
 ghost use Rattle.riegeli_c.specs.Recovers.{IsBadBegin, IsStatusOf, TellsPiece};
 
 use crate::faults::reason_number;
-use crate::reading::{MAX_SIZE, put_records};
+use crate::reading::put_records;
 use block_layout::is_boundary;
 use chunk_reader::LoadEnd;
+use command_frame::MOST_FILE_BYTES;
 use damage_skip::{Found, NextPiece, Progress, piece_at};
 use slice_io::SliceStore;
 use std::alloc::Global;
@@ -63,7 +64,7 @@ pub extern "C" fn riegeli_recover(
         → IsPieceOf true file.now at end kind → IsStatusOf kind values.old ends.old result }
 {
     let size = file.len() as u64;
-    if size > MAX_SIZE || at > size {
+    if size > MOST_FILE_BYTES || at > size {
         return 2;
     }
     if at == size {

@@ -1,6 +1,6 @@
 ghost use Rattle.std.specs.Prelude.{◌≡◌, ◌≢◌, ◌^◌, ◌<◌, ◌≤◌, ◌⊎◌, ◌↔◌, true, [], Some, None, Err, IfSome, OnOk, length};
 ghost use Rattle.record_io.specs.Calls.{OnlyCounts};
-ghost use Rattle.damage_skip.specs.Bounds.{MaySkip, may_skip};
+ghost use Rattle.damage_skip.specs.Bounds.{MaySkip};
 ghost use Rattle.damage_skip.specs.declared.regions.Region.{Region};
 ghost use Rattle.repair_copy.specs.RelaidFiles.{relaid};
 ghost use Rattle.riegeli_c.specs.Reasons.{reason_number};
@@ -8,8 +8,8 @@ ghost use Rattle.riegeli_c.specs.Repairing.{TakesLess};
 ghost use Rattle.riegeli_c.specs.Repairs.{GivesRepair, StopsRepair, TakesRepair, MeasuresRepair, ExceedsRoom, LoadsWalkedChunk, told_lines};
 
 use crate::faults::reason_number;
-use crate::reading::MAX_SIZE;
-use damage_skip::{Policy, Region};
+use command_frame::MOST_FILE_BYTES;
+use damage_skip::{Policy, Region, may_skip};
 use record_io::Sink;
 use repair_copy::{RepairEnd, Repaired, repair};
 use slice_io::{SliceSink, SliceStore, VoidSink};
@@ -69,7 +69,7 @@ pub extern "C" fn riegeli_repair(
     ensures enough { (told : RepairTold) → MeasuresRepair file.now told
         → told.bytes ≤ length room.old → told.lines ≤ length lines.old → result ≢ 4 }
 {
-    if file.len() as u64 > MAX_SIZE {
+    if file.len() as u64 > MOST_FILE_BYTES {
         return 2;
     }
     let mut made = SliceSink::new(room);
@@ -119,16 +119,8 @@ fn repair_within<M: Sink, E: Sink>(
     ensures notes { OnlyCounts E.lent E.faults (result ≡ Err RepairEnd.Notes) notes.old notes.new }
 {
     let mut store = SliceStore::new(file);
-    let policy = Policy::new(|region: &Region| may_skip(most, region));
+    let policy = Policy::new(|region: &Region| may_skip(Some(most), region));
     repair(alloc, &mut store, file.len() as u64, policy, made, notes)
-}
-
-/// Whether a region has no more than so many bytes.
-fn may_skip(most: u64, region: &Region) -> bool
-    requires { region.now.begin ≤ region.now.end }
-    ensures { result ≡ may_skip (Some most) region.now }
-{
-    region.end - region.begin <= most
 }
 
 /// How much room the repair of a file takes where no region is refused; `None` where there is too little memory.

@@ -1,22 +1,18 @@
-ghost use Rattle.std.specs.Prelude.{◌≡◌, ◌-◌, ◌^◌, ◌<◌, ◌≤◌, ◌⊎◌, ◌↔◌, ℕ, List, Some, None, IfOk, IfSome, Err, length, take};
-ghost use Rattle.record_io.specs.Calls.{OnlyAsks};
-ghost use Rattle.record_io.specs.Calls.{HasSize};
+ghost use Rattle.std.specs.Prelude.{◌≡◌, ◌-◌, ◌^◌, ◌<◌, ◌≤◌, ◌⊎◌, ◌↔◌, ℕ, List, Some, None, Err, length, take};
 ghost use Rattle.chunk_reader.specs.Holders.{IsHolderFault};
 ghost use Rattle.chunk_reader.specs.PositionSearches.{AnswersAt, SearchGives, IsSearchFault};
 ghost use Rattle.chunk_reader.specs.Reasons.{Applies, NoneOf, loading_reasons};
-ghost use Rattle.chunk_reader.specs.declared.reasons.Fault.{Fault};
 ghost use Rattle.record_seek.specs.Met.{IsMetBySearch};
-ghost use Rattle.record_seek.specs.Steps.{LoadsMetChunk, placed_of};
-ghost use Rattle.seek_command.specs.Searches.{is_below, MayFind, IsKeyFault};
+ghost use Rattle.seek_command.specs.Searches.{MayFind};
 ghost use Rattle.riegeli_c.specs.Faults.{TellsFault};
 ghost use Rattle.riegeli_c.specs.Seeking.{HoldsFound};
 ghost use Rattle.riegeli_c.specs.Seeks.{IsRecordOf, TellsSought, TellsFound, IsFindFault};
 
 use crate::faults::FaultAt;
-use crate::reading::MAX_SIZE;
 use chunk_reader::ReadEnd;
-use record_io::Store;
-use record_seek::{Found, HolderEnd, KeyTest, find, holder, seek};
+use command_frame::MOST_FILE_BYTES;
+use record_seek::{Found, HolderEnd, holder, seek};
+use seek_command::find_by_key;
 use slice_io::SliceStore;
 use std::alloc::Global;
 
@@ -57,7 +53,7 @@ pub extern "C" fn riegeli_seek(
     ensures nothing { result ≡ 5 → SearchGives file.now at None }
 {
     let size = file.len() as u64;
-    if size > MAX_SIZE {
+    if size > MOST_FILE_BYTES {
         return 2;
     }
     let mut store = SliceStore::new(file);
@@ -139,7 +135,7 @@ pub extern "C" fn riegeli_find(
     ensures nothing { result ≡ 5 → MayFind key.now file.now None }
 {
     let size = file.len() as u64;
-    if size > MAX_SIZE {
+    if size > MOST_FILE_BYTES {
         return 2;
     }
     let mut store = SliceStore::new(file);
@@ -184,25 +180,4 @@ fn tell_found(
         }
         Err(HolderEnd::Store) => unreachable!(),
     }
-}
-
-/// A record of a file that isn't less than a key, behind one that is.
-fn find_by_key<S: Store>(
-    alloc: Global,
-    store: &mut S,
-    size: u64,
-    key: &[u8],
-) -> Result<Option<Found>, ReadEnd>
-    requires sized { HasSize (S.told store.old) size }
-    ensures found { IfOk result (λ found. IfSome (S.bytes store.old) (λ file. MayFind key.now file (placed_of found))) }
-    ensures refused { (fault : Fault) → result ≡ Err (ReadEnd.Refused fault) → IfSome (S.bytes store.old) (λ file. IsKeyFault file fault) }
-    ensures memory { result ≡ Err ReadEnd.Memory → IfSome (S.bytes store.old) LoadsMetChunk }
-    ensures store { OnlyAsks S.bytes S.told S.name S.faults (result ≡ Err ReadEnd.Store) store.old store.new }
-{
-    let test = KeyTest::new(
-        |bytes: &[u8]| -> bool
-            ensures { result ≡ is_below key.entry.now bytes.now }
-        { bytes.cmp(key).is_lt() },
-    );
-    find(alloc, store, size, &test)
 }

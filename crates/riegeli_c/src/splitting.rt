@@ -9,8 +9,8 @@ ghost use Rattle.riegeli_c.specs.Faults.{TellsFault};
 ghost use Rattle.riegeli_c.specs.Splits.{IsSplit, IsFirstBegin};
 
 use crate::faults::FaultAt;
-use crate::reading::MAX_SIZE;
 use chunk_reader::{ReadEnd, passed_head_at};
+use command_frame::MOST_FILE_BYTES;
 use record_io::Store;
 use record_seek::holder;
 use slice_io::SliceStore;
@@ -32,7 +32,7 @@ pub extern "C" fn riegeli_split(file: &[u8], at: u64, begin: &mut u64, fault: &m
         → IsFirstBegin ks at begin.new }
 {
     let size = file.len() as u64;
-    if size > MAX_SIZE {
+    if size > MOST_FILE_BYTES {
         return 2;
     }
     let mut store = SliceStore::new(file);

@@ -1,12 +1,13 @@
-ghost use Rattle.std.specs.Prelude.{◌≡◌, ◌+◌, ◌-◌, ◌<◌, ◌≤◌, ◌⊎◌, ◌↔◌, ◌==◌, ◌&&◌, if◌then◌else◌, Some, Err, [], IsTrue, IfOk, OnOk, length, take};
+ghost use Rattle.std.specs.Prelude.{◌≡◌, ◌+◌, ◌-◌, ◌<◌, ◌≤◌, ◌⊎◌, ◌↔◌, ◌&&◌, if◌then◌else◌, Some, Err, [], IsTrue, IfOk, OnOk, length, take};
 ghost use Rattle.record_io.specs.Calls.{OnlyCounts};
 ghost use Rattle.record_io.specs.Outside.{Takes, TakesShort};
 ghost use Rattle.meta_chunk.specs.Files.{laid_each};
-ghost use Rattle.record_group.specs.Groups.{pads_start, pads_end};
+ghost use Rattle.record_group.specs.Groups.{pads_end};
 ghost use Rattle.riegeli_c.specs.Writes.{AreCuts, AreGoodOptions, IsGoodPlace, MayWrite, TellsWritten, chunks_told, every_told, pad_told, records_cut};
 
 use crate::laying::{LayEnd, lay_first, lay_groups, pad_if};
 use block_layout::is_boundary;
+use command_frame::MOST_FILE_BYTES;
 use meta_chunk::SIGNATURE;
 use ordered_writer::OrderedWriter;
 use record_group::{Grouper, Pad};
@@ -17,9 +18,6 @@ use std::alloc::Global;
 
 /// The most that a chunk size, a number of records in each chunk and a record's size may be.
 const MOST: u64 = 1 << 24;
-
-/// The largest place that is written at.
-const MAX_PLACE: u64 = 1 << 60;
 
 /// The most values, and the most records, that a call takes.
 const MAX_COUNT: u64 = 1 << 48;
@@ -118,7 +116,7 @@ fn are_good_options(options: &OptionsTold) -> bool
 fn is_good_place(at: u64) -> bool
     ensures { IsTrue result ↔ IsGoodPlace at }
 {
-    is_boundary(at) && (at == 0 || at >= SIGNATURE.len() as u64) && at <= MAX_PLACE
+    is_boundary(at) && (at == 0 || at >= SIGNATURE.len() as u64) && at <= MOST_FILE_BYTES
 }
 
 /// Whether records end at these places of so many values.
@@ -181,7 +179,7 @@ fn write<M: Sink>(
     let grouper = Grouper::new(alloc, options.chunk, every_told(options.every));
     let mut chunk = SimpleChunk::new(alloc, Records::new(alloc))?;
     let mut writer = OrderedWriter::resume(at);
-    lay_first(pads_start(pad), &mut writer, made)?;
+    lay_first(pad.pads_start(), &mut writer, made)?;
     let held = lay_groups(
         values,
         ends,
@@ -191,7 +189,7 @@ fn write<M: Sink>(
         &mut writer,
         made,
     )?;
-    pad_if(pads_end(pad, last == 1), &mut writer, made)?;
+    pad_if(pads_behind(pad, last == 1), &mut writer, made)?;
     Ok(WrittenTold {
         end: writer.position(),
         records: (ends.len() - held) as u64,
@@ -217,16 +215,9 @@ fn pad_told(number: u32) -> Pad
     }
 }
 
-/// Whether padding is wanted before the chunks of records.
-fn pads_start(pad: Pad) -> bool
-    ensures { result ≡ pads_start pad }
-{
-    matches!(pad, Pad::Start | Pad::Both)
-}
-
-/// Whether padding is wanted behind them, which is so only where no record follows.
-fn pads_end(pad: Pad, last: bool) -> bool
+/// Whether padding is wanted behind the chunks of records, which is so only where no record follows.
+fn pads_behind(pad: Pad, last: bool) -> bool
     ensures { result ≡ (last && pads_end pad) }
 {
-    last && matches!(pad, Pad::End | Pad::Both)
+    last && pad.pads_end()
 }

@@ -43,7 +43,7 @@ pub returns-in-Ok-clause-bad : goal.returns-in-Ok-clause-bad
 returns-in-Ok-clause-bad c = (
   λ is. absurd (is_other c.give_chunk.result 2 c.give_chunk.ensures.status (λ e. omega (arith, e)) (λ e. omega (arith, e)) is),
   λ bad.
-      absurd (is_fine c.args.file.now c.args.at (omega (arith, c.if-size-gt-MAX_SIZE.false)) (omega (arith, c.if-at-size.false))
+      absurd (is_fine c.args.file.now c.args.at (omega (arith, c.if-size-gt-MOST_FILE_BYTES.false)) (omega (arith, c.if-at-size.false))
       (c.is_boundary.ensures.0 (search rules)) bad),
 )
 
@@ -98,7 +98,7 @@ returns-then-at-size-2-clause-at_end c = (
   λ _. (
     λ zero. omega (arith, zero, c.if-at-size-2.true, signed_is_long c.args.file.now (c.begins_right.ensures.right (search rules) zero)),
     omega (arith, c.if-at-size-2.true),
-    is_fine c.args.file.now c.args.at (omega (arith, c.if-size-gt-MAX_SIZE.false)) (omega (arith, c.if-at-size.false))
+    is_fine c.args.file.now c.args.at (omega (arith, c.if-size-gt-MOST_FILE_BYTES.false)) (omega (arith, c.if-at-size.false))
         (c.is_boundary.ensures.0 (search rules)),
   ),
   λ _. refl,

@@ -71,7 +71,7 @@ returns-in-Ok-clause-bad c = (
       absurd (is_other c.in-Ok.next.what c.args.values.now c.args.ends.now c.give_piece.result 2 c.give_piece.ensures.status (λ e. omega (arith, e))
       (λ e. omega (arith, e)) (λ e. omega (arith, e)) is),
   λ bad.
-      absurd (is_fine c.args.file.now c.args.at (omega (arith, c.if-size-gt-MAX_SIZE.false)) (omega (arith, c.if-at-size.false))
+      absurd (is_fine c.args.file.now c.args.at (omega (arith, c.if-size-gt-MOST_FILE_BYTES.false)) (omega (arith, c.if-at-size.false))
       (c.is_boundary.ensures.0 (search rules)) bad),
 )
 
@@ -108,6 +108,6 @@ pub returns-in-Err-Memory-clause-bad : goal.returns-in-Err-Memory-clause-bad
 returns-in-Err-Memory-clause-bad c = (
   λ is. absurd (omega (arith, is)),
   λ bad.
-      absurd (is_fine c.args.file.now c.args.at (omega (arith, c.if-size-gt-MAX_SIZE.false)) (omega (arith, c.if-at-size.false))
+      absurd (is_fine c.args.file.now c.args.at (omega (arith, c.if-size-gt-MOST_FILE_BYTES.false)) (omega (arith, c.if-at-size.false))
       (c.is_boundary.ensures.0 (search rules)) bad),
 )

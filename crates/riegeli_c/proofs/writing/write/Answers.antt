@@ -15,7 +15,7 @@ use Rattle.riegeli_c.proofs.LaidBy.{position}
 use Rattle.riegeli_c.proofs.WrittenChunks.{first-near}
 use Rattle.riegeli_c.proofs.WriteSteps.{IsReady, count-told, may_limit, short-first, short-groups, short-end, whole-written}
 use Rattle.riegeli_c.proofs.writing.write.Goals as goal
-use Rattle.riegeli_c.proofs.writing.write.Goals.{After-lay_first, After-pads_end, In_ok-pad_if}
+use Rattle.riegeli_c.proofs.writing.write.Goals.{After-lay_first, After-pads_behind, In_ok-pad_if}
 
 -- what is made of the arguments
 ready : (g : _) (c : After-lay_first g)
@@ -27,20 +27,20 @@ ready g c = record {
   every_is = ap (λ (n : Grouping). n.every) c.new-grouper.ensures.value ∙ c.every_told.ensures;
 }
 
-ends_is : (g : _) (c : After-pads_end g) → c.pads_end.result ≡ ((c.args.last == 1) && pads_end (pad_told c.args.options.now.pad))
-ends_is g c = c.pads_end.ensures ∙ ap (λ (p : Pad). (c.args.last == 1) && pads_end p) c.pad_told-pad.ensures
+ends_is : (g : _) (c : After-pads_behind g) → c.pads_behind.result ≡ ((c.args.last == 1) && pads_end (pad_told c.args.options.now.pad))
+ends_is g c = c.pads_behind.ensures ∙ ap (λ (p : Pad). (c.args.last == 1) && pads_end p) c.pad_told-pad.ensures
 
 -- all that is laid
 written : (g : _) (c : In_ok-pad_if g)
     → IsReady c.args.at c.args.options.now c.resume-writer.result c.pads_start.result c.new-grouper.result
-    → c.pads_end.result ≡ ((c.args.last == 1) && pads_end (pad_told c.args.options.now.pad))
+    → c.pads_behind.result ≡ ((c.args.last == 1) && pads_end (pad_told c.args.options.now.pad))
     → let ks = chunks_told c.args.at (records_cut c.args.values.now c.args.ends.now) c.args.options.now c.args.last in
     Takes (g.M.Sink.taken c.args.made.now) (g.M.Sink.taken c.pad_if.new.made) (laid_each c.args.at ks)
     × (c.pad_if.new.writer.position ≡ end_of_chunks c.args.at ks)
 written g c is_ready ends =
     whole-written (g.M.Sink.taken c.args.made.now) (g.M.Sink.taken c.lay_first.new.made) c.resume-writer.result c.lay_first.new.writer
     c.args.at (records_cut c.args.values.now c.args.ends.now) c.args.options.now c.args.last c.pads_start.result c.new-grouper.result is_ready
-    (g.M.Sink.taken c.lay_groups.new.made) c.lay_groups.new.writer c.pads_end.result ends c.in_ok-lay_first.ensures.whole
+    (g.M.Sink.taken c.lay_groups.new.made) c.lay_groups.new.writer c.pads_behind.result ends c.in_ok-lay_first.ensures.whole
     c.in_ok-held.ensures.laid.whole (g.M.Sink.taken c.pad_if.new.made) c.pad_if.new.writer c.in_ok-pad_if.ensures.whole
 
 pub new-grouper-requires : goal.new-grouper-requires
@@ -83,20 +83,20 @@ returns-in_err-pad_if-clause-short g c = λ _.
     let is_ready = ready g s.After-lay_first in
     short-end (g.M.Sink.taken c.args.made.now) (g.M.Sink.taken c.lay_first.new.made) c.resume-writer.result c.lay_first.new.writer
     c.args.at (records_cut c.args.values.now c.args.ends.now) c.args.options.now c.args.last c.pads_start.result c.new-grouper.result is_ready
-    (g.M.Sink.taken c.lay_groups.new.made) c.lay_groups.new.writer c.pads_end.result (ends_is g s.After-pads_end)
+    (g.M.Sink.taken c.lay_groups.new.made) c.lay_groups.new.writer c.pads_behind.result (ends_is g s.After-pads_behind)
     c.in_ok-lay_first.ensures.whole c.in_ok-held.ensures.laid.whole (g.M.Sink.taken c.pad_if.new.made) (c.in_err-pad_if.ensures.short refl)
 
 pub returns-clause-laid : goal.returns-clause-laid
 returns-clause-laid g c =
     let s = goal.at.returns-clause-laid g c in
-    (written g s.In_ok-pad_if (ready g s.After-lay_first) (ends_is g s.After-pads_end)).0
+    (written g s.In_ok-pad_if (ready g s.After-lay_first) (ends_is g s.After-pads_behind)).0
 
 pub returns-clause-told : goal.returns-clause-told
 returns-clause-told g c =
     let s = goal.at.returns-clause-told g c in
     let is_ready = ready g s.After-lay_first in
     record {
-      end = c.position.ensures.value ∙ (written g s.In_ok-pad_if is_ready (ends_is g s.After-pads_end)).1;
+      end = c.position.ensures.value ∙ (written g s.In_ok-pad_if is_ready (ends_is g s.After-pads_behind)).1;
       count = omega (
         arith,
         count-told is_ready (records_cut c.args.values.now c.args.ends.now) c.args.last c.in_ok-held.held (length c.args.ends.now)
