@@ -48,7 +48,8 @@ impl From<Failed> for LayEnd {
     }
 }
 
-/// Lays the signature, where nothing was laid before, and the padding that is wanted before the chunks of records.
+/// Lays the signature, where nothing was laid before, and the padding that is wanted before the
+/// chunks of records.
 pub(crate) fn lay_first<M: Sink>(
     wanted: bool,
     writer: &mut OrderedWriter,
@@ -57,7 +58,9 @@ pub(crate) fn lay_first<M: Sink>(
     requires going { writer.old.spent ≡ false }
     requires near { writer.old.position ≤ 2 ^ 60 }
     ensures { LaysBy M.taken M.lent M.faults (IsErr result) result writer.old writer.new
-        (signature_at writer.old.position ++ padding_if wanted (end_of_chunks writer.old.position (signature_at writer.old.position))) made.old made.new }
+        (signature_at writer.old.position
+        ++ padding_if wanted (end_of_chunks writer.old.position (signature_at writer.old.position)))
+        made.old made.new }
 {
     lay_signature(writer, made)?;
     pad_if(wanted, writer, made)
@@ -89,8 +92,8 @@ pub(crate) fn pad_if<M: Sink>(
     if wanted { writer.pad(made) } else { Ok(()) }
 }
 
-/// Lays a chunk for each group of the records that end at these places of values, and answers how many of them are held in an
-/// open group, which isn't laid unless it is the last one.
+/// Lays a chunk for each group of the records that end at these places of values, and answers how
+/// many of them are held in an open group, which isn't laid unless it is the last one.
 pub(crate) fn lay_groups<M: Sink>(
     values: &[u8],
     ends: &[u64],
@@ -105,8 +108,11 @@ pub(crate) fn lay_groups<M: Sink>(
     requires going { writer.old.spent ≡ false }
     requires in_reach { reach_of writer.old.position grouper (length values.now + length ends.now) ≤ 2 ^ 61 }
     ensures laid { LaysBy M.taken M.lent M.faults (result ≡ Err LayEnd.Made) result writer.old writer.new
-        (chunks_of_groups (groups_laid last (groups (records_cut values.now ends.now) grouper.size grouper.every))) made.old made.new }
-    ensures held { IfOk result (λ held. held + length (records_laid (records_cut values.now ends.now) grouper.size grouper.every last)
+        (chunks_of_groups (groups_laid last
+        (groups (records_cut values.now ends.now) grouper.size grouper.every)))
+        made.old made.new }
+    ensures held { IfOk result (λ held. held
+        + length (records_laid (records_cut values.now ends.now) grouper.size grouper.every last)
         ≡ length ends.now) }
     ensures in_reach { OnOk result (writer.new.position ≤ 2 ^ 61) }
 {
@@ -133,11 +139,15 @@ fn lay_closed<M: Sink>(
     requires cuts { AreCuts 0 ends.now (length values.now) }
     requires new { grouper.old.group ≡ [] }
     requires going { writer.old.spent ≡ false }
-    requires in_reach { reach_of writer.old.position grouper.old (length values.now + length ends.now) ≤ 2 ^ 61 }
+    requires in_reach { reach_of writer.old.position grouper.old
+        (length values.now + length ends.now) ≤ 2 ^ 61 }
     ensures laid { LaysBy M.taken M.lent M.faults (result ≡ Err LayEnd.Made) result writer.old writer.new
-        (chunks_of_groups (groups_laid false (groups_from grouper.old (records_cut values.now ends.now)))) made.old made.new }
+        (chunks_of_groups
+        (groups_laid false (groups_from grouper.old (records_cut values.now ends.now))))
+        made.old made.new }
     ensures behind { OnOk result (groups_from grouper.old (records_cut values.now ends.now)
-        ≡ groups_laid false (groups_from grouper.old (records_cut values.now ends.now)) ++ groups_from grouper.new []) }
+        ≡ groups_laid false (groups_from grouper.old (records_cut values.now ends.now))
+        ++ groups_from grouper.new []) }
     ensures in_reach { OnOk result (reach_of writer.new.position grouper.new 0 ≤ 2 ^ 61) }
 {
     let mut begin: usize = 0;
@@ -162,7 +172,8 @@ fn lay_before<M: Sink>(
     requires short { length rec.now ≤ 2 ^ 24 }
     requires going { writer.old.spent ≡ false }
     requires in_reach { reach_of writer.old.position grouper.old 0 ≤ 2 ^ 61 }
-    ensures { LaysPushed M.taken M.lent M.faults (result ≡ Err LayEnd.Made) result grouper.old grouper.new rec.now writer.old writer.new made.old made.new }
+    ensures { LaysPushed M.taken M.lent M.faults (result ≡ Err LayEnd.Made) result
+        grouper.old grouper.new rec.now writer.old writer.new made.old made.new }
 {
     let Some(mut group) = push(rec, grouper)? else {
         return Ok(());
@@ -172,7 +183,8 @@ fn lay_before<M: Sink>(
     Ok(())
 }
 
-/// Takes the next record, and gives the group that closes before it, if one does. Only then is the record copied twice.
+/// Takes the next record, and gives the group that closes before it, if one does. Only then is the
+/// record copied twice.
 fn push(rec: &[u8], grouper: &mut Grouper) -> Result<Option<Records>, AllocError>
     requires { length rec.now ≤ 2 ^ 24 }
     ensures push { IfOk result (λ given. IsPush grouper.old rec.now given grouper.new) }
@@ -192,7 +204,8 @@ fn lay_group<M: Sink>(
     made: &mut M,
 ) -> Result<(), LayEnd>
     requires small { cost_of group.old ≤ 2 ^ 25 }
-    requires may_reach { MayReach writer.old (end_of_chunk writer.old.position (simple_chunk group.old)) (2 ^ 62) }
+    requires may_reach { MayReach writer.old
+        (end_of_chunk writer.old.position (simple_chunk group.old)) (2 ^ 62) }
     ensures { LaysBy M.taken M.lent M.faults (result ≡ Err LayEnd.Made) result writer.old writer.new
         (simple_chunk group.old ∷ []) made.old made.new }
 {
@@ -209,7 +222,8 @@ fn put_chunk<M: Sink>(
     made: &mut M,
 ) -> Result<u64, Failed>
     requires encoded { chunk.now.encoded ≡ true }
-    requires may_reach { MayReach writer.old (end_of_chunk writer.old.position (simple_chunk chunk.now.records)) (2 ^ 62) }
+    requires may_reach { MayReach writer.old
+        (end_of_chunk writer.old.position (simple_chunk chunk.now.records)) (2 ^ 62) }
     ensures { LaysBy M.taken M.lent M.faults (IsErr result) result writer.old writer.new
         (simple_chunk chunk.now.records ∷ []) made.old made.new }
 {

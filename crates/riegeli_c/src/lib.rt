@@ -1,6 +1,7 @@
-//! The calls for C. Each is a function of its arguments: the caller owns all memory that it hands over, nothing of it is kept,
-//! and calls may run side by side. A call answers a status: 0 done, 1 a fault or a region of the file, 2 a bad argument, 3 no
-//! memory, 4 too little room, 5 nothing found. Bytes are told for at most 2^60 of them.
+//! The calls for C. Each is a function of its arguments: the caller owns all memory that it hands
+//! over, nothing of it is kept, and calls may run side by side. A call answers a status: 0 done, 1
+//! a fault or a region of the file, 2 a bad argument, 3 no memory, 4 too little room, 5 nothing
+//! found. Bytes are told for at most 2^60 of them.
 #![tactic(auto)]
 
 mod faults;

@@ -45,14 +45,16 @@ pub struct ChunkTold {
     pub records: u64,
     /// How many bytes they have together.
     pub bytes: u64,
-    /// 1 it gives records, 2 it has none (signature, metadata or padding), 3 it is compressed or transposed, and left unread.
+    /// 1 it gives records, 2 it has none (signature, metadata or padding), 3 it is compressed or
+    /// transposed, and left unread.
     pub what: u32,
 }
 
-/// Judges a whole file, and counts what it holds. Compressed and transposed chunks are left unread. It takes no memory.
+/// Judges a whole file, and counts what it holds. Compressed and transposed chunks are left unread.
+/// It takes no memory.
 ///
-/// 0: it has no fault, and `totals` are its own. 1: `fault` is its fault, and `totals` are those of its longest front without
-/// fault. 2: it has more than 2^60 bytes.
+/// 0: it has no fault, and `totals` are its own. 1: `fault` is its fault, and `totals` are those of
+/// its longest front without fault. 2: it has more than 2^60 bytes.
 #[unsafe(no_mangle)]
 pub extern "C" fn riegeli_verify(file: &[u8], totals: &mut FileTotals, fault: &mut FaultAt) -> u32
     ensures answers { result ≤ 2 }
@@ -96,12 +98,14 @@ fn totals_told(totals: &Totals) -> FileTotals
     }
 }
 
-/// Judges the chunk at a place of a file, and gives its records: their bytes, one behind another, in `values`, and where each
-/// ends among these in `ends`. At 0 the file's first 64 bytes are judged too. Compressed and transposed chunks are left unread.
+/// Judges the chunk at a place of a file, and gives its records: their bytes, one behind another,
+/// in `values`, and where each ends among these in `ends`. At 0 the file's first 64 bytes are
+/// judged too. Compressed and transposed chunks are left unread.
 ///
-/// 0: `chunk` tells of it, and its records are given. 1: `fault` is its fault. 2: the file has more than 2^60 bytes or ends before
-/// the place, or no chunk can begin there. 3: there is too little memory. 4: there is too little room; `chunk` tells of it all the
-/// same, so that `bytes` bytes and `records` places are needed. 5: the file ends at the place.
+/// 0: `chunk` tells of it, and its records are given. 1: `fault` is its fault. 2: the file has more
+/// than 2^60 bytes or ends before the place, or no chunk can begin there. 3: there is too little
+/// memory. 4: there is too little room; `chunk` tells of it all the same, so that `bytes` bytes and
+/// `records` places are needed. 5: the file ends at the place.
 #[unsafe(no_mangle)]
 pub extern "C" fn riegeli_read_chunk(
     alloc: Global,
@@ -123,7 +127,8 @@ pub extern "C" fn riegeli_read_chunk(
     ensures room { result ≡ 4 → (records : List (List ℕ))
         × IsChunkTold file.now at chunk.new records × IsTooSmall records values.old ends.old }
     ensures at_end { (result ≡ 5) ↔ ((at ≢ 0) × (at ≡ length file.now) × (¬ IsBadPlace file.now at)) }
-    ensures exact { (records : List (List ℕ)) → HasChunkWith file.now at records → IsStatusFor records values.old ends.old result }
+    ensures exact { (records : List (List ℕ)) → HasChunkWith file.now at records
+        → IsStatusFor records values.old ends.old result }
 {
     let size = file.len() as u64;
     if size > MOST_FILE_BYTES || at > size || !is_boundary(at) {
@@ -151,7 +156,8 @@ pub extern "C" fn riegeli_read_chunk(
     }
 }
 
-/// Whether a file that is read from a place on begins with the 64 bytes that each file begins with: it is asked at 0 alone.
+/// Whether a file that is read from a place on begins with the 64 bytes that each file begins with:
+/// it is asked at 0 alone.
 fn begins_right(file: &[u8], at: u64) -> bool
     ensures right { result ≡ true → at ≡ 0 → BeginsWithSignature file.now }
     ensures wrong { result ≡ false → (at ≡ 0) × (¬ BeginsWithSignature file.now) }

@@ -27,21 +27,24 @@ pub struct PieceTold {
     pub records: u64,
     /// How many bytes they have together.
     pub bytes: u64,
-    /// 1 it is a chunk that gives records, 2 one that has none (signature, metadata or padding), 3 one that is compressed or
-    /// transposed, and left unread, 4 a region: bytes that are passed over.
+    /// 1 it is a chunk that gives records, 2 one that has none (signature, metadata or padding), 3
+    /// one that is compressed or transposed, and left unread, 4 a region: bytes that are passed
+    /// over.
     pub what: u32,
     /// The number of the reason for which a region is passed over; 0 of a chunk.
     pub why: u32,
 }
 
-/// Finds the piece of a file that begins at a place: a chunk that is intact, or a region that is passed over, up to where a walk past
-/// the damage goes on. The records of a chunk are given: their bytes, one behind another, in `values`, and where each ends among
-/// these in `ends`. Compressed and transposed chunks are left unread.
+/// Finds the piece of a file that begins at a place: a chunk that is intact, or a region that is
+/// passed over, up to where a walk past the damage goes on. The records of a chunk are given: their
+/// bytes, one behind another, in `values`, and where each ends among these in `ends`. Compressed
+/// and transposed chunks are left unread.
 ///
-/// 0: the piece is a chunk, of which `piece` tells, and its records are given. 1: it is a region, of which `piece` tells. 2: the file
-/// has more than 2^60 bytes or ends before the place, or no piece can begin there. 3: there is too little memory. 4: there is too
-/// little room; `piece` tells of the chunk all the same, so that `bytes` bytes and `records` places are needed. 5: the file ends at
-/// the place.
+/// 0: the piece is a chunk, of which `piece` tells, and its records are given. 1: it is a region,
+/// of which `piece` tells. 2: the file has more than 2^60 bytes or ends before the place, or no
+/// piece can begin there. 3: there is too little memory. 4: there is too little room; `piece` tells
+/// of the chunk all the same, so that `bytes` bytes and `records` places are needed. 5: the file
+/// ends at the place.
 #[unsafe(no_mangle)]
 pub extern "C" fn riegeli_recover(
     alloc: Global,
@@ -52,7 +55,8 @@ pub extern "C" fn riegeli_recover(
     ends: &mut [u64],
 ) -> u32
     ensures answers { result ≤ 5 }
-    ensures given { result ≡ 0 → (kind : PieceKind) × TellsPiece file.now at kind piece.new × (piece.new.what < 4)
+    ensures given { result ≡ 0 → (kind : PieceKind)
+        × TellsPiece file.now at kind piece.new × (piece.new.what < 4)
         × AreGiven (records_of kind) values.new ends.new }
     ensures region { result ≡ 1 → (reason : Why) × TellsPiece file.now at (Skipped reason) piece.new }
     ensures bad { (result ≡ 2) ↔ IsBadBegin file.now at }

@@ -40,12 +40,14 @@ pub struct RegionTold {
     pub why: u32,
 }
 
-/// Repairs a file: makes the file of its intact chunks in `room`, and tells each region that is passed over by a line in `lines`,
-/// as `skipped BEGIN END REASON`. Compressed and transposed chunks are copied unread.
+/// Repairs a file: makes the file of its intact chunks in `room`, and tells each region that is
+/// passed over by a line in `lines`, as `skipped BEGIN END REASON`. Compressed and transposed
+/// chunks are copied unread.
 ///
-/// 0: the file is made; `repaired` says how many bytes it has, and how many its lines have. 1: `region` has more than `most` bytes;
-/// the file of what comes before is made. 2: the file has more than 2^60 bytes. 3: there is too little memory. 4: there is too
-/// little room; what `repaired` says is enough, whatever `most` is.
+/// 0: the file is made; `repaired` says how many bytes it has, and how many its lines have. 1:
+/// `region` has more than `most` bytes; the file of what comes before is made. 2: the file has more
+/// than 2^60 bytes. 3: there is too little memory. 4: there is too little room; what `repaired`
+/// says is enough, whatever `most` is.
 #[unsafe(no_mangle)]
 pub extern "C" fn riegeli_repair(
     alloc: Global,
@@ -59,7 +61,8 @@ pub extern "C" fn riegeli_repair(
     ensures answers { result ≤ 4 }
     ensures given { result ≡ 0 → GivesRepair file.now most None repaired.new room.new lines.new }
     ensures stopped { result ≡ 1 → StopsRepair file.now most region.new repaired.new room.new lines.new }
-    ensures within { (result ≡ 0) ⊎ (result ≡ 1) → (repaired.new.bytes ≤ length room.old) × (repaired.new.lines ≤ length lines.old) }
+    ensures within { (result ≡ 0) ⊎ (result ≡ 1)
+        → (repaired.new.bytes ≤ length room.old) × (repaired.new.lines ≤ length lines.old) }
     ensures too_long { (result ≡ 2) ↔ (2 ^ 60 < length file.now) }
     ensures memory { result ≡ 3 → LoadsWalkedChunk (MaySkip (Some most)) file.now
         ⊎ (LoadsWalkedChunk (MaySkip None) file.now
@@ -112,7 +115,8 @@ fn repair_within<M: Sink, E: Sink>(
     ensures stopped { (region : Region) → result ≡ Err (RepairEnd.Stopped region)
         → TakesRepair file.now most (Some region) (M.taken made.new) (E.taken notes.new) }
     ensures made_less { result ≡ Err RepairEnd.Made → TakesLess relaid file.now most (M.taken made.new) }
-    ensures notes_less { result ≡ Err RepairEnd.Notes → TakesLess told_lines file.now most (E.taken notes.new) }
+    ensures notes_less { result ≡ Err RepairEnd.Notes
+        → TakesLess told_lines file.now most (E.taken notes.new) }
     ensures not_store { ¬ (result ≡ Err RepairEnd.Store) }
     ensures memory { result ≡ Err RepairEnd.Memory → LoadsWalkedChunk (MaySkip (Some most)) file.now }
     ensures made { OnlyCounts M.lent M.faults (result ≡ Err RepairEnd.Made) made.old made.new }
@@ -123,7 +127,8 @@ fn repair_within<M: Sink, E: Sink>(
     repair(alloc, &mut store, file.len() as u64, policy, made, notes)
 }
 
-/// How much room the repair of a file takes where no region is refused; `None` where there is too little memory.
+/// How much room the repair of a file takes where no region is refused; `None` where there is too
+/// little memory.
 fn room_needed(alloc: Global, file: &[u8]) -> Option<RepairTold>
     requires { length file.now ≤ 2 ^ 60 }
     ensures measures { IfSome result (MeasuresRepair file.now) }

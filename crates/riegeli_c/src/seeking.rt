@@ -28,12 +28,12 @@ pub struct FoundAt {
     pub bytes: u64,
 }
 
-/// Finds the first record at or past a position of a file: of the first chunk, from the one on that holds the position, that
-/// has a record there. Its bytes are given in `value`.
+/// Finds the first record at or past a position of a file: of the first chunk, from the one on that
+/// holds the position, that has a record there. Its bytes are given in `value`.
 ///
-/// 0: `found` tells of it. 1: `fault` is the fault that the search met. 2: the file has more than 2^60 bytes. 3: there is too
-/// little memory. 4: there is too little room; `found` tells of it all the same, so that `bytes` bytes are needed. 5: there is
-/// none.
+/// 0: `found` tells of it. 1: `fault` is the fault that the search met. 2: the file has more than
+/// 2^60 bytes. 3: there is too little memory. 4: there is too little room; `found` tells of it all
+/// the same, so that `bytes` bytes are needed. 5: there is none.
 #[unsafe(no_mangle)]
 pub extern "C" fn riegeli_seek(
     alloc: Global,
@@ -44,12 +44,14 @@ pub extern "C" fn riegeli_seek(
     fault: &mut FaultAt,
 ) -> u32
     ensures answers { result ≤ 5 }
-    ensures given { result ≡ 0 → (bytes : List ℕ) × TellsSought file.now at found.new bytes × (take (length bytes) value.new ≡ bytes) }
+    ensures given { result ≡ 0 → (bytes : List ℕ)
+        × TellsSought file.now at found.new bytes × (take (length bytes) value.new ≡ bytes) }
     ensures refused { result ≡ 1 → TellsFault (IsSearchFault file.now at) fault.new }
     ensures too_long { (result ≡ 2) ↔ (2 ^ 60 < length file.now) }
     ensures memory { result ≡ 3 → (place : ℕ)
         × AnswersAt file.now at place × NoneOf (Applies file.now place) loading_reasons }
-    ensures room { result ≡ 4 → (bytes : List ℕ) × TellsSought file.now at found.new bytes × (length value.old < length bytes) }
+    ensures room { result ≡ 4 → (bytes : List ℕ)
+        × TellsSought file.now at found.new bytes × (length value.old < length bytes) }
     ensures nothing { result ≡ 5 → SearchGives file.now at None }
 {
     let size = file.len() as u64;
@@ -91,8 +93,8 @@ fn give_found(sought: &Found, begin: u64, found: &mut FoundAt, value: &mut [u8])
     0
 }
 
-/// Where the chunk begins of a record that was found for a position: at the record, where that is past the position, and else it
-/// is the chunk that holds the position.
+/// Where the chunk begins of a record that was found for a position: at the record, where that is
+/// past the position, and else it is the chunk that holds the position.
 fn chunk_of(file: &[u8], at: u64, sought: &Found) -> u64
     requires short { length file.now ≤ 2 ^ 60 }
     requires sought { SearchGives file.now at (Some (sought.now.position, sought.now.bytes)) }
@@ -110,12 +112,14 @@ fn chunk_of(file: &[u8], at: u64, sought: &Found) -> u64
     }
 }
 
-/// Finds a record of a file that isn't less than a key, as bytes are compared, where all that stand before it are: the first such
-/// one, where the records are in order. Its bytes are given in `value`.
+/// Finds a record of a file that isn't less than a key, as bytes are compared, where all that stand
+/// before it are: the first such one, where the records are in order. Its bytes are given in
+/// `value`.
 ///
-/// 0: `found` tells of it. 1: `fault` is the fault that the search met, or why its chunk can't be told. 2: the file has more than
-/// 2^60 bytes. 3: there is too little memory. 4: there is too little room; `found` tells of it all the same, so that `bytes` bytes
-/// are needed. 5: there is none.
+/// 0: `found` tells of it. 1: `fault` is the fault that the search met, or why its chunk can't be
+/// told. 2: the file has more than 2^60 bytes. 3: there is too little memory. 4: there is too
+/// little room; `found` tells of it all the same, so that `bytes` bytes are needed. 5: there is
+/// none.
 #[unsafe(no_mangle)]
 pub extern "C" fn riegeli_find(
     alloc: Global,
@@ -126,12 +130,14 @@ pub extern "C" fn riegeli_find(
     fault: &mut FaultAt,
 ) -> u32
     ensures answers { result ≤ 5 }
-    ensures given { result ≡ 0 → (bytes : List ℕ) × TellsFound file.now key.now found.new bytes × (take (length bytes) value.new ≡ bytes) }
+    ensures given { result ≡ 0 → (bytes : List ℕ)
+        × TellsFound file.now key.now found.new bytes × (take (length bytes) value.new ≡ bytes) }
     ensures refused { result ≡ 1 → TellsFault (IsFindFault file.now key.now) fault.new }
     ensures too_long { (result ≡ 2) ↔ (2 ^ 60 < length file.now) }
     ensures memory { result ≡ 3 → (place : ℕ)
         × IsMetBySearch file.now place × NoneOf (Applies file.now place) loading_reasons }
-    ensures room { result ≡ 4 → (bytes : List ℕ) × TellsFound file.now key.now found.new bytes × (length value.old < length bytes) }
+    ensures room { result ≡ 4 → (bytes : List ℕ)
+        × TellsFound file.now key.now found.new bytes × (length value.old < length bytes) }
     ensures nothing { result ≡ 5 → MayFind key.now file.now None }
 {
     let size = file.len() as u64;
@@ -151,7 +157,8 @@ pub extern "C" fn riegeli_find(
     }
 }
 
-/// Tells a record that was found by its key with the chunk that holds its position, and gives its bytes where there is room.
+/// Tells a record that was found by its key with the chunk that holds its position, and gives its
+/// bytes where there is room.
 fn tell_found(
     file: &[u8],
     sought: &Found,

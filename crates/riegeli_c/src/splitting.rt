@@ -15,18 +15,20 @@ use record_io::Store;
 use record_seek::holder;
 use slice_io::SliceStore;
 
-/// Where the first chunk begins at or past a position of a file, as the block header at or before the position tells, and the
-/// headers of the chunks from there up to it. So a file is read by many: who reads the part between two positions reads the
-/// chunks between where the file is split at the one and at the other. It takes no memory.
+/// Where the first chunk begins at or past a position of a file, as the block header at or before
+/// the position tells, and the headers of the chunks from there up to it. So a file is read by
+/// many: who reads the part between two positions reads the chunks between where the file is split
+/// at the one and at the other. It takes no memory.
 ///
-/// 0: `begin` is that place. 1: `fault` is why it can't be told. 2: the file has more than 2^60 bytes. 5: no chunk begins there,
-/// and `begin` is how many bytes the file has.
+/// 0: `begin` is that place. 1: `fault` is why it can't be told. 2: the file has more than 2^60
+/// bytes. 5: no chunk begins there, and `begin` is how many bytes the file has.
 #[unsafe(no_mangle)]
 pub extern "C" fn riegeli_split(file: &[u8], at: u64, begin: &mut u64, fault: &mut FaultAt) -> u32
     ensures split { result ≡ 0 → IsSplit file.now at begin.new × (begin.new < length file.now) }
     ensures refused { result ≡ 1 → TellsFault (IsHolderFault file.now at) fault.new }
     ensures too_long { (result ≡ 2) ↔ (2 ^ 60 < length file.now) }
-    ensures at_end { result ≡ 5 → (begin.new ≡ length file.now) × ((length file.now ≤ at) ⊎ IsSplit file.now at begin.new) }
+    ensures at_end { result ≡ 5 → (begin.new ≡ length file.now)
+        × ((length file.now ≤ at) ⊎ IsSplit file.now at begin.new) }
     ensures answers { (result ≡ 0) ⊎ (result ≡ 1) ⊎ (result ≡ 2) ⊎ (result ≡ 5) }
     ensures whole { (ks : List ChunkValue) → IsWellFormed ks file.now → length file.now ≤ 2 ^ 60
         → IsFirstBegin ks at begin.new }

@@ -26,11 +26,13 @@ const MAX_COUNT: u64 = 1 << 48;
 #[repr(C)]
 #[derive(Clone, Copy, Debug, Drop)]
 pub struct OptionsTold {
-    /// What the records of a chunk of two or more may cost at most: each its bytes and 8 more. From 1 to 2^24.
+    /// What the records of a chunk of two or more may cost at most: each its bytes and 8 more. From
+    /// 1 to 2^24.
     pub chunk: u64,
     /// How many records a chunk has at most, up to 2^24; 0 where that is not limited.
     pub every: u64,
-    /// Where padding up to a block is wanted: 0 nowhere, 1 before the chunks of records, 2 behind them, 3 both.
+    /// Where padding up to a block is wanted: 0 nowhere, 1 before the chunks of records, 2 behind
+    /// them, 3 both.
     pub pad: u32,
 }
 
@@ -44,16 +46,19 @@ pub struct WrittenTold {
     pub records: u64,
 }
 
-/// Writes the chunks of records from a place of a file on, as `write` does. The records lie one behind another in `values`, and
-/// `ends` says where each ends among these. At 0 the signature comes first; then the padding that is wanted before the chunks of
-/// records; a chunk for each group of records; and the padding behind them.
+/// Writes the chunks of records from a place of a file on, as `write` does. The records lie one
+/// behind another in `values`, and `ends` says where each ends among these. At 0 the signature
+/// comes first; then the padding that is wanted before the chunks of records; a chunk for each
+/// group of records; and the padding behind them.
 ///
-/// Where `last` is 0, more records are to follow: the last group stays open, and no padding is laid behind. The next call goes on at
-/// `written.end`, without the padding before, with the records that were not written and more behind them. So a file that is written
-/// by several calls is the file of all its records.
+/// Where `last` is 0, more records are to follow: the last group stays open, and no padding is laid
+/// behind. The next call goes on at `written.end`, without the padding before, with the records
+/// that were not written and more behind them. So a file that is written by several calls is the
+/// file of all its records.
 ///
-/// 0: `written.end - at` bytes of `room` are the chunks. 2: an argument is bad. 3: there is too little memory. 4: there is too little
-/// room; `written` tells of it all the same, so that `written.end - at` bytes are needed.
+/// 0: `written.end - at` bytes of `room` are the chunks. 2: an argument is bad. 3: there is too
+/// little memory. 4: there is too little room; `written` tells of it all the same, so that
+/// `written.end - at` bytes are needed.
 #[unsafe(no_mangle)]
 pub extern "C" fn riegeli_write(
     alloc: Global,
@@ -68,8 +73,10 @@ pub extern "C" fn riegeli_write(
     ensures answers { (result ≡ 0) ⊎ (result ≡ 2) ⊎ (result ≡ 3) ⊎ (result ≡ 4) }
     ensures bad { (result ≡ 2) ↔ (¬ MayWrite values.now ends.now options.now at last) }
     ensures memory { result ≡ 3 → MayWrite values.now ends.now options.now at last }
-    ensures laid { result ≡ 0 → take (written.new.end - at) room.new ≡ laid_each at (chunks_told at (records_cut values.now ends.now) options.now last) }
-    ensures told { (result ≡ 0) ⊎ (result ≡ 4) → TellsWritten at (records_cut values.now ends.now) options.now last written.new }
+    ensures laid { result ≡ 0 → take (written.new.end - at) room.new
+        ≡ laid_each at (chunks_told at (records_cut values.now ends.now) options.now last) }
+    ensures told { (result ≡ 0) ⊎ (result ≡ 4)
+        → TellsWritten at (records_cut values.now ends.now) options.now last written.new }
     ensures fits { result ≡ 0 → written.new.end ≤ at + length room.old }
     ensures room { result ≡ 4 → at + length room.old < written.new.end }
 {
@@ -147,10 +154,13 @@ fn write_into(
     room: &mut [u8],
 ) -> Result<WrittenTold, LayEnd>
     requires { MayWrite values.now ends.now options.now at last }
-    ensures laid { IfOk result (λ told. take (told.end - at) room.new ≡ laid_each at (chunks_told at (records_cut values.now ends.now) options.now last)) }
+    ensures laid { IfOk result (λ told. take (told.end - at) room.new
+        ≡ laid_each at (chunks_told at (records_cut values.now ends.now) options.now last)) }
     ensures told { IfOk result (TellsWritten at (records_cut values.now ends.now) options.now last) }
     ensures fits { IfOk result (λ told. told.end ≤ at + length room.old) }
-    ensures room { result ≡ Err LayEnd.Made → length room.old < length (laid_each at (chunks_told at (records_cut values.now ends.now) options.now last)) }
+    ensures room { result ≡ Err LayEnd.Made
+        → length room.old
+        < length (laid_each at (chunks_told at (records_cut values.now ends.now) options.now last)) }
 {
     let mut made = SliceSink::new(room);
     let ended = write(alloc, values, ends, options, at, last, &mut made);
@@ -169,10 +179,12 @@ fn write<M: Sink>(
     made: &mut M,
 ) -> Result<WrittenTold, LayEnd>
     requires { MayWrite values.now ends.now options.now at last }
-    ensures laid { OnOk result (Takes (M.taken made.old) (M.taken made.new) (laid_each at (chunks_told at (records_cut values.now ends.now) options.now last))) }
+    ensures laid { OnOk result (Takes (M.taken made.old) (M.taken made.new)
+        (laid_each at (chunks_told at (records_cut values.now ends.now) options.now last))) }
     ensures told { IfOk result (TellsWritten at (records_cut values.now ends.now) options.now last) }
     ensures short { result ≡ Err LayEnd.Made
-        → TakesShort (M.taken made.old) (M.taken made.new) (laid_each at (chunks_told at (records_cut values.now ends.now) options.now last)) }
+        → TakesShort (M.taken made.old) (M.taken made.new)
+        (laid_each at (chunks_told at (records_cut values.now ends.now) options.now last)) }
     ensures made { OnlyCounts M.lent M.faults (result ≡ Err LayEnd.Made) made.old made.new }
 {
     let pad = pad_told(options.pad);

@@ -2,7 +2,8 @@ ghost use Rattle.std.specs.Prelude.{◌≡◌, length, Some};
 
 use record_io::{Failed, Store};
 
-/// Bytes that are lent, as a store, which tells their number from the first. It never fails, and takes no memory.
+/// Bytes that are lent, as a store, which tells their number from the first. It never fails, and
+/// takes no memory.
 #[derive(Drop)]
 pub struct SliceStore<'a> {
     bytes: &'a [u8],
