@@ -1,8 +1,7 @@
 -- What a feed of lines gave of its text, and what is left of it then.
-use Rattle.std.proofs.Common.{◌≡◌, ◌∙◌, ℕ, ◌+◌, ◌-◌, ◌<◌, ◌≤◌, ◌↔◌, Bool, true, false, not, IsTrue, List, [], ◌∷◌, ◌++◌, Option, Some, None, Result, Ok, length, take, drop, option_map, unwrap_or, refl, sym, ap, subst, arith, length-append, length-drop, append_assoc, append-nil}
+use Rattle.std.proofs.Common.{◌≡◌, ◌∙◌, ℕ, ◌+◌, ◌-◌, ◌<◌, ◌≤◌, ◌↔◌, Bool, true, false, not, IsTrue, List, [], ◌∷◌, ◌++◌, Option, Some, None, Result, Ok, length, take, drop, option_map, unwrap_or, refl, sym, ap, subst, arith, length-append, append_assoc, append-nil}
 use Rattle.std.specs.Option.{IfSome}
-use Rattle.std.proofs.lemmas.List.{take-append-drop, length-take-le, drop-drop}
-use Rattle.std.proofs.Math.Seq.{take-add}
+use Rattle.std.proofs.lemmas.List.{take-append-drop, length-take-le}
 use Rattle.hex.specs.Hex.{decode_of}
 use Rattle.record_writer.specs.declared.feed.Stop.{Stop}
 use Rattle.record_writer.specs.declared.feed.Stop.TheVariants.{TooLong, InputTooLong}
@@ -10,7 +9,7 @@ use Rattle.record_writer.specs.Feeds.{Rest, stop_alone}
 use Rattle.record_writer.specs.FeedSteps.{GivesRecord, nothing_left}
 use Rattle.command_frame.specs.OpenLines.{NoneEnds}
 use Rattle.write_command.specs.Input.{line_limit, or_bad_line, record_of_line, taken_before, taken_from}
-use Rattle.write_command.specs.LineFeeds.{GivesLine, LineEndsAt, text_of, rest_of}
+use Rattle.write_command.specs.LineFeeds.{GivesLine, text_of, rest_of}
 use Rattle.command_frame.proofs.Lines.{NoneEnds-append}
 use Rattle.write_command.proofs.TakenLines.{taken_from-line, taken_from-nothing, taken_from-last, taken_from-running, taken_from-long, taken_from-spent, short-record}
 
@@ -208,18 +207,3 @@ input-spent hex bound held None e = absurd (let n : None ≡ Some nothing_left =
 input-spent hex bound held (Some bytes) e =
     let none : taken_from (held ++ bytes) hex (bound - 1) ≡ nothing_left = (let s : Some (taken_from (held ++ bytes) hex (bound - 1)) ≡ Some nothing_left = e in cc) in
     ap Some (no_back held bytes (taken_from-spent (held ++ bytes) hex (bound - 1) none))
-
--- an end behind bytes that are none
-pub LineEndsAt-behind : (bytes : List ℕ) (seen more : ℕ) → seen ≤ length bytes → NoneEnds (take seen bytes) → LineEndsAt (drop seen bytes) more → LineEndsAt bytes (seen + more)
-LineEndsAt-behind bytes seen more within front ends =
-    let back : List ℕ = drop seen bytes in
-    let line : take (seen + more) bytes ≡ take seen bytes ++ take more back = take-add seen more bytes in
-    let after : drop (seen + more + 1) bytes ≡ drop (more + 1) back =
-    ap (λ (n : ℕ). drop n bytes) (let n : seen + more + 1 ≡ seen + (more + 1) = omega arith in n) ∙ sym (drop-drop (more + 1) seen bytes) in (
-      omega (arith, ends.0, length-drop seen bytes),
-      rw line (NoneEnds-append (take seen bytes) (take more back) front ends.1),
-      rw (line, after) (sym (take-append-drop seen bytes) ∙ ap (λ (l : List ℕ). take seen bytes ++ l) ends.2 ∙ sym (append_assoc (take seen bytes) (take more back) (10 ∷ drop (more + 1) back))),
-    )
-
-pub NoneEnds-behind : (bytes : List ℕ) (seen : ℕ) → NoneEnds (take seen bytes) → NoneEnds (drop seen bytes) → NoneEnds bytes
-NoneEnds-behind bytes seen front back = subst NoneEnds (take-append-drop seen bytes) (NoneEnds-append (take seen bytes) (drop seen bytes) front back)

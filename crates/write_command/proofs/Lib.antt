@@ -5,3 +5,6 @@ pub mod TakenRecords
 mod Values
 pub mod WriteEnds
 pub mod WrittenLines
+mod KnownEnds
+mod MarkBits
+mod HeldRanges

@@ -1,4 +1,5 @@
 pub mod Input
+pub mod LineEnds
 pub mod LastLines
 pub mod LineFeeds
 pub mod WriteCommand

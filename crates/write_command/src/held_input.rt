@@ -1,7 +1,10 @@
-ghost use Rattle.std.specs.Prelude.{◌≡◌, ◌<◌, ◌≤◌, ◌↔◌, IsTrue, is_some, [], drop, length, IfOk, IfSome, OnErr};
+ghost use Rattle.std.specs.Prelude.{◌≡◌, ◌+◌, ◌<◌, ◌≤◌, ◌↔◌, IsTrue, is_some, [], None, drop, length, IfOk, IfSome, OnErr};
 ghost use Rattle.record_io.specs.Outside.{Gives};
 ghost use Rattle.record_io.specs.Seen.{Counts};
+ghost use Rattle.command_frame.specs.OpenLines.{NoneEnds};
+ghost use Rattle.write_command.specs.LineFeeds.{LineEndsAt};
 
+use crate::line_ends::LineEnds;
 use record_io::{Failed, Source};
 use std::marker::Model;
 
@@ -14,16 +17,18 @@ pub(crate) struct HeldInput {
     bytes: [u8; SIZE],
     begin: usize,
     end: usize,
+    ends: LineEnds,
 }
 
 impl Model for HeldInput {
     ghost use Rattle.std.specs.Prelude.{List, ℕ, ◌≤◌, slice_range};
+    ghost use Rattle.write_command.specs.LineEnds.{KnowsEnds};
 
     ghost Value = { List ℕ };
 
     ghost view = { λ w. slice_range w.bytes w.begin w.end };
 
-    ghost invariant = { λ w. (w.begin ≤ w.end) × (w.end ≤ 65536) };
+    ghost invariant = { λ w. (w.begin ≤ w.end) × (w.end ≤ 65536) × KnowsEnds w.bytes w.begin w.end w.ends.base w.ends.mask };
 }
 
 impl HeldInput {
@@ -35,6 +40,7 @@ impl HeldInput {
             bytes: [0; SIZE],
             begin: 0,
             end: 0,
+            ends: LineEnds::none(),
         }
     }
 
@@ -53,12 +59,33 @@ impl HeldInput {
         self.begin == self.end
     }
 
-    /// Drops bytes from the front.
-    pub fn skip(&mut self, count: usize)
-        requires { count ≤ length self.old }
-        ensures { self.new ≡ drop count self.old }
+    /// How many bytes the first line has, where its end is held.
+    #[inline(always)]
+    pub fn line_end(&mut self) -> Option<usize>
+        ensures found { IfSome result (LineEndsAt self.old) }
+        ensures none { result ≡ None → NoneEnds self.old }
+        ensures same { self.new ≡ self.old }
     {
-        self.begin += count;
+        self.ends.first(&self.bytes, self.begin, self.end)
+    }
+
+    /// Drops the first line, of so many bytes, and its end.
+    #[inline(always)]
+    pub fn skip_line(&mut self, len: usize)
+        requires { LineEndsAt self.old len }
+        ensures { self.new ≡ drop (len + 1) self.old }
+    {
+        self.ends.pass(&self.bytes, self.begin, self.end);
+        self.begin += len + 1;
+    }
+
+    /// Drops all bytes.
+    pub fn clear(&mut self)
+        ensures { self.new ≡ [] }
+    {
+        self.begin = 0;
+        self.end = 0;
+        self.ends = LineEnds::none();
     }
 
     /// Takes the next bytes of the input, at most so many, where none are held, and answers how many: 0 exactly
@@ -76,8 +103,10 @@ impl HeldInput {
     {
         self.begin = 0;
         self.end = 0;
+        self.ends = LineEnds::none();
         let size = most.min(SIZE as u64) as usize;
         self.end = input.take(&mut self.bytes[..size])?;
+        self.ends = LineEnds::of(&self.bytes);
         Ok(self.end)
     }
 }

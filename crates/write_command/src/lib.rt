@@ -2,7 +2,9 @@
 #![tactic(auto)]
 
 mod held_input;
+mod line_ends;
 mod line_feed;
+mod marks;
 pub mod write_words;
 mod writing;
 

@@ -10,7 +10,6 @@ ghost use Rattle.hex.specs.declared.error.FromHexError.{FromHexError};
 
 use crate::held_input::HeldInput;
 use hex::FromHexError;
-use memchr::memchr;
 use record_group::Grouper;
 use record_io::{Bytes, Failed, Source};
 use record_writer::{FeedEnd, RecordFeed, Stop};
@@ -30,12 +29,8 @@ pub struct LineFeed<'a, I: Source> {
     /// end was seen, or the byte past its limit, which is then held.
     asked: u64,
     held: HeldInput,
-    /// How many of the bytes that are held are known not to end a line.
-    seen: usize,
     /// How many bytes the last line had that was pulled, for which a long one takes room at once.
     room: usize,
-    ghost some_seen: { seen ≤ length held },
-    ghost none_ends: { NoneEnds (take seen held) },
     ghost all_given: { asked ≡ 0 → length held ≤ 1 },
     ghost ended: { asked ≡ 0 → held ≡ [] → unwrap_or (I.left input.now) [] ≡ [] },
 }
@@ -56,7 +51,6 @@ impl<'a, I: Source> LineFeed<'a, I> {
             hex,
             asked: limit + 1,
             held: HeldInput::new(),
-            seen: 0,
             room: 0,
         }
     }
@@ -68,10 +62,7 @@ impl<'a, I: Source> LineFeed<'a, I> {
         ensures same_held { self.new.held ≡ self.old.held }
         ensures asks { AsksNothing self.old self.new (λ f. f.hex) (λ f. f.asked) (λ f. f.input.now) (λ f. f.input.ghost_name) }
     {
-        let held = self.held.as_slice();
-        let end = end_behind(held, self.seen);
-        self.seen = end.unwrap_or(held.len());
-        end
+        self.held.line_end()
     }
 
     /// Takes bytes of the input where none are held, and answers whether some are held then.
@@ -116,7 +107,6 @@ impl<'a, I: Source> LineFeed<'a, I> {
             return Ok(());
         }
         let allowed = self.asked - 1;
-        self.seen = 0;
         let taken = self.held.fill(&mut *self.input, allowed.max(1))?;
         if taken == 0 {
             self.asked = 0;
@@ -185,14 +175,12 @@ impl<'a, I: Source> LineFeed<'a, I> {
             let _ = line.reserve(self.room.saturating_sub(line.len()));
         }
         line.push_all(piece)?;
-        let used = piece.len() + usize::from(end.is_some());
-        self.held.skip(used);
-        self.seen = 0;
-        Ok(if end.is_some() {
-            LineState::Ended
-        } else {
-            LineState::GoesOn
-        })
+        let Some(len) = end else {
+            self.held.clear();
+            return Ok(LineState::GoesOn);
+        };
+        self.held.skip_line(len);
+        Ok(LineState::Ended)
     }
 }
 
@@ -220,25 +208,6 @@ fn decode_digits(alloc: Global, line: &mut Bytes) -> Result<bool, AllocError>
         Err(FromHexError::OutOfMemory) => Err(AllocError),
         Err(_) => Ok(false),
     }
-}
-
-/// How many bytes stand before the first byte 10, if there is one, where the first `seen` bytes are none.
-fn end_behind(bytes: &[u8], seen: usize) -> Option<usize>
-    requires some_seen { seen ≤ length bytes.now }
-    requires none_ends { NoneEnds (take seen bytes.now) }
-    ensures found { IfSome result (LineEndsAt bytes.now) }
-    ensures none { result ≡ None → NoneEnds bytes.now }
-{
-    let more = first_end(&bytes[seen..])?;
-    Some(seen + more)
-}
-
-/// How many bytes stand before the first byte 10, if there is one.
-fn first_end(bytes: &[u8]) -> Option<usize>
-    ensures found { IfSome result (LineEndsAt bytes.now) }
-    ensures none { result ≡ None → NoneEnds bytes.now }
-{
-    memchr(b'\n', bytes)
 }
 
 /// How many bytes a line may have.
@@ -280,8 +249,7 @@ impl<'a, I: Source> RecordFeed for LineFeed<'a, I> {
         if !grouper.push_open(&self.held.as_slice()[..len])? {
             return Ok(false);
         }
-        self.held.skip(len + 1);
-        self.seen = 0;
+        self.held.skip_line(len);
         Ok(true)
     }
 }
