@@ -18,6 +18,7 @@ use Rattle.chunk_reader.specs.Contents.{IsWhat, IsJudged, IsJudgedIn}
 use Rattle.chunk_reader.specs.Faults.{IsAllowed, IsVerdict, IsFault, BeginsWithSignature}
 use Rattle.chunk_reader.specs.Progress.{totals_with_chunk, AreInBounds, AreReadFrom}
 use Rattle.chunk_reader.specs.Places.{end_at, chunk_at}
+use Rattle.chunk_reader.specs.Readers.{GoesOn}
 use Rattle.chunk_reader.specs.Reasons.{Applies, NoneOf, unpassed_reasons, loading_reasons}
 use Rattle.chunk_reader.specs.SearchBounds.{MayBeReadTo}
 use Rattle.chunk_reader.specs.declared.judging.Judged.{Judged}
@@ -260,16 +261,10 @@ read_to-chunk (Some file) at place before after here early whole =
     subst (λ (p : ℕ). MayBeReadTo file p (p + (after - before))) here (to_chunk file at before after early whole)
 
 -- totals of the chunks before go on by a chunk that was given
-abbrev pub GoesOn : Bool → List ℕ → Totals → Totals → Judged → Type 0
-GoesOn unread_ok file before after j =
-    (ks : List ChunkValue) → IsChainOf (IsAllowed unread_ok) ks file before.bytes → before ≡ totals_of ks
-    → IsChainOf (IsAllowed unread_ok) (ks ++ value_of_chunk j.chunk ∷ []) file after.bytes
-    × (after ≡ totals_of (ks ++ value_of_chunk j.chunk ∷ []))
-
 pub goes_on_given : (unread_ok : Bool) (size : ℕ) (bytes : Option (List ℕ)) (before : Totals) (j : Judged) (unread : Bool)
     → IfSome bytes BeginsWithSignature → IsJudged unread_ok size before.bytes j
     → IfSome bytes (λ file. IsJudgedIn unread_ok file before.bytes j) → unread ≡ is_left j.what
-    → IfSome bytes (λ file. GoesOn unread_ok file before (totals_with_chunk before j.end j.chunk.header.num_records unread) j)
+    → IfSome bytes (λ file. GoesOn unread_ok file before (totals_with_chunk before j.end j.chunk.header.num_records unread) (value_of_chunk j.chunk))
 goes_on_given unread_ok size None before j unread begins judged there left = tt
 goes_on_given unread_ok size (Some file) before j unread begins judged there left =
     let k : ChunkValue = value_of_chunk j.chunk in
@@ -280,7 +275,7 @@ goes_on_given unread_ok size (Some file) before j unread begins judged there lef
 
 -- so what was read is read on
 pub read_on : (unread_ok : Bool) (bytes : Option (List ℕ)) (before after : Totals) (j : Judged)
-    → IfSome bytes (λ file. AreReadFrom unread_ok file before) → IfSome bytes (λ file. GoesOn unread_ok file before after j)
+    → IfSome bytes (λ file. AreReadFrom unread_ok file before) → IfSome bytes (λ file. GoesOn unread_ok file before after (value_of_chunk j.chunk))
     → IfSome bytes (λ file. AreReadFrom unread_ok file after)
 read_on unread_ok None before after j read on = tt
 read_on unread_ok (Some file) before after j (ks, chain, same) on =

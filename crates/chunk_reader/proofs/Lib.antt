@@ -22,6 +22,7 @@ pub mod ChainReads
 pub mod FirstChunks
 pub mod FrontsRead
 pub mod VerifySteps
+pub mod StrictlyJudged
 pub mod HeadersTell
 mod Values
 pub mod ManyFiles

@@ -12,11 +12,12 @@ use Rattle.chunk_header.specs.Views.{value_of}
 use Rattle.meta_chunk.specs.Files.{IsPlain, IsUnread, is_unread, totals_of}
 use Rattle.chunk_reader.specs.Heads.{IsFoundHead}
 use Rattle.chunk_reader.specs.Reasons.{HasBadContents, Applies, IsFirstOf, loading_reasons}
-use Rattle.chunk_reader.specs.Faults.{IsVerdict, BeginsWithSignature}
+use Rattle.chunk_reader.specs.Faults.{IsAllowed, IsVerdict, BeginsWithSignature}
 use Rattle.chunk_reader.specs.Pieces.{HasTaken, TellsUnread, IsVerifiedIn}
 use Rattle.chunk_reader.specs.declared.piece_judge.PieceJudge.{PieceJudge}
 use Rattle.chunk_reader.specs.declared.reasons.Why.TheVariants as why
 use Rattle.chunk_reader.proofs.AllowedChunks.{allowed_good, allowed_named}
+use Rattle.chunk_reader.proofs.NoReasonLaid.{allowed_where_none}
 use Rattle.chunk_reader.specs.declared.verifying.Verified.{Verified}
 use Rattle.chunk_reader.specs.declared.reasons.Why.{Why}
 use Rattle.chunk_reader.specs.declared.reasons.Fault.{Fault}
@@ -26,7 +27,8 @@ use Rattle.chunk_reader.specs.PlaceChecks.{HaveHeadersOf, IsFirstWrong}
 use Rattle.chunk_reader.proofs.PassedChunks.{length-data_at, IsLaid-right}
 use Rattle.chunk_reader.proofs.Loads.{header_within, IsOnBoundary-of}
 use Rattle.chunk_reader.proofs.ReadingSteps.{next_read, next-le, unread-le}
-use Rattle.chunk_reader.specs.Progress.{totals_with_chunk, AreInBounds, AreReadFrom}
+use Rattle.chunk_reader.specs.Progress.{ReaderValue, totals_with_chunk, AreInBounds, AreReadFrom}
+use Rattle.chunk_reader.specs.Readers.{GoesOn, IsNextPassed}
 use Rattle.chunk_reader.proofs.Rooms.{IsSized}
 use Rattle.chunk_reader.proofs.Verdicts.{verdict_loading, verdict_block, verdict_content, value_of-at, end_by-at, hash_of-at, none_at, is_unread-plain, is_unread-unread}
 
@@ -90,10 +92,10 @@ blocks_at file size at end h found right =
     subst (λ (e : ℕ). HaveHeadersOf file at e at e) (found.head.ends ∙ end_by-at file at h found.head.fits found.head.header) right
 
 pub passed : (bytes : Option (List ℕ)) (size at : ℕ) (h : Header) (judge : PieceJudge) (v : Verified)
-    → IsFound bytes size at v.end h → IsThrough bytes at v.end h judge (Ok v.unread) → v.num_records ≡ h.num_records
-    → IfSome bytes (λ file. IsVerifiedIn file at v)
-passed None size at h judge v found through records = tt
-passed (Some file) size at h judge v found through records =
+    → IsFound bytes size at v.end h → IsThrough bytes at v.end h judge (Ok v.unread) → v.header ≡ h
+    → IfSome bytes (λ file. IsVerifiedIn true file at v)
+passed None size at h judge v found through same = tt
+passed (Some file) size at h judge v found through same =
     let told = tells_data file size at v.end h judge (Ok v.unread) found through in
     let bytes : List ℕ = data_at file at h.data_size in
     let is : value_of h bytes ≡ chunk_at file at = value_of-at file at h bytes found.head.fits found.head.header refl in
@@ -101,7 +103,7 @@ passed (Some file) size at h judge v found through records =
     let ends : v.end ≡ end_at file at = found.head.ends ∙ end_by-at file at h found.head.fits found.head.header in
     let blocks : HaveHeadersOf file at (end_at file at) at (end_at file at) = blocks_at file size at v.end h found through.right in
     let hash : riegeli_hash bytes ≡ h.data_hash =
-    elim (cases_eq (riegeli_hash bytes) h.data_hash) [ inl same ↦ same | inr differs ↦ absurd (told.1.0 differs) ] in
+    elim (cases_eq (riegeli_hash bytes) h.data_hash) [ inl right ↦ right | inr differs ↦ absurd (told.1.0 differs) ] in
     record {
       laid = IsLaid-right file at h (record {
         sound = found.head.fits;
@@ -113,7 +115,7 @@ passed (Some file) size at h judge v found through records =
       });
       none = none_at true file at h bytes found.head.fits found.head.header refl found.head.none blocks told.1;
       end = ends;
-      num_records = records ∙ ap (λ (c : ChunkValue). c.num_records) is;
+      header = ap (λ (x : Header). value_of x (chunk_at file at).«data») same ∙ ap (value_of h) (sym «data») ∙ is;
       unread = told.0 ∙ ap is_unread is;
     }
 
@@ -152,31 +154,60 @@ signed_end at end signed behind =
 
 -- so totals stay in their bounds with one chunk more
 pub verified_totals : (size : ℕ) (totals : Totals) (v : Verified) → AreInBounds size totals
-    → IsBoundary v.end × (end_of totals.bytes 40 ≤ v.end) × (v.end ≤ size) × (totals.bytes + v.num_records ≤ v.end)
-    → AreInBounds size (totals_with_chunk totals v.end v.num_records v.unread)
+    → IsBoundary v.end × (end_of totals.bytes 40 ≤ v.end) × (v.end ≤ size) × (totals.bytes + v.header.num_records ≤ v.end)
+    → AreInBounds size (totals_with_chunk totals v.end v.header.num_records v.unread)
 verified_totals size totals v h (boundary, behind, within, room) =
     let past : totals.bytes + 40 ≤ v.end = omega (arith, end_of_room totals.bytes 40) in record {
       within = within;
       boundary = IsOnBoundary-of v.end boundary;
       signed = λ some. signed_end totals.bytes v.end h.signed behind;
       chunks = omega (arith, h.chunks);
-      records = next-le totals.bytes v.end totals.records v.num_records v.unread room h.records;
+      records = next-le totals.bytes v.end totals.records v.header.num_records v.unread room h.records;
       unread = unread-le totals.bytes v.end totals.unread v.unread past h.unread;
     }
 
--- and are those of the chunks with that one more
-pub verified_on : (bytes now : Option (List ℕ)) (totals : Totals) (v : Verified) → now ≡ bytes → IfSome bytes BeginsWithSignature
-    → IfSome now (λ file. IsVerifiedIn file totals.bytes v) → IfSome bytes (λ file. AreReadFrom true file totals)
-    → IfSome bytes (λ file. AreReadFrom true file (totals_with_chunk totals v.end v.num_records v.unread))
-verified_on None now totals v same begins there read = tt
-verified_on (Some file) None totals v same begins there read = cc
-verified_on (Some file) (Some other) totals v same begins there (ks, chain, counts) =
-    let is : other ≡ file = cc in
-    let here : IsVerifiedIn file totals.bytes v = subst (λ (f : List ℕ). IsVerifiedIn f totals.bytes v) is there in
-    let next = next_read true ks file totals.bytes v.end (chunk_at file totals.bytes) v.unread begins chain refl here.end here.laid here.none here.unread in (
-      ks ++ chunk_at file totals.bytes ∷ [],
+-- and where they are those of some chunks, go on with that one more
+pub verified_goes_on : (unread_ok : Bool) (bytes : Option (List ℕ)) (totals : Totals) (v : Verified) → IfSome bytes BeginsWithSignature
+    → IfSome bytes (λ file. IsVerifiedIn unread_ok file totals.bytes v)
+    → IfSome bytes (λ file. GoesOn unread_ok file totals (totals_with_chunk totals v.end v.header.num_records v.unread) (chunk_at file totals.bytes))
+verified_goes_on unread_ok None totals v begins here = tt
+verified_goes_on unread_ok (Some file) totals v begins here =
+    λ ks chain counts.
+    let k : ChunkValue = chunk_at file totals.bytes in
+    let next = next_read unread_ok ks file totals.bytes v.end k v.unread begins chain refl here.end here.laid here.none here.unread in
+    let records : v.header.num_records ≡ k.num_records = ap (λ (c : ChunkValue). c.num_records) here.header in (
       next.0,
-      ap (λ (t : Totals). totals_with_chunk t v.end v.num_records v.unread) counts
-          ∙ ap (λ (records : ℕ). totals_with_chunk (totals_of ks) v.end records v.unread) here.num_records
+      ap (λ (t : Totals). totals_with_chunk t v.end v.header.num_records v.unread) counts
+          ∙ ap (λ (n : ℕ). totals_with_chunk (totals_of ks) v.end n v.unread) records
           ∙ next.1,
     )
+
+pub verified_read : (unread_ok : Bool) (bytes : Option (List ℕ)) (totals : Totals) (v : Verified) → IfSome bytes BeginsWithSignature
+    → IfSome bytes (λ file. IsVerifiedIn unread_ok file totals.bytes v) → IfSome bytes (λ file. AreReadFrom unread_ok file totals)
+    → IfSome bytes (λ file. AreReadFrom unread_ok file (totals_with_chunk totals v.end v.header.num_records v.unread))
+verified_read unread_ok None totals v begins here read = tt
+verified_read unread_ok (Some file) totals v begins here (ks, chain, counts) =
+    let next = verified_goes_on unread_ok (Some file) totals v begins here ks chain counts in
+    (ks ++ chunk_at file totals.bytes ∷ [], next.0, next.1)
+
+-- which is the next chunk of a reader
+pub verified_next : (bytes : Option (List ℕ)) (before after : ReaderValue) (v : Verified) → IfSome bytes BeginsWithSignature
+    → IfSome bytes (λ file. IsVerifiedIn before.unread_ok file before.totals.bytes v) → end_of before.totals.bytes 40 ≤ v.end
+    → after.totals ≡ totals_with_chunk before.totals v.end v.header.num_records v.unread → IsNextPassed bytes before after v.header
+verified_next bytes before after v begins here behind counts = record {
+  moved = omega (arith, behind, end_of_room before.totals.bytes 40, ap (λ (t : Totals). t.bytes) counts);
+  given = given bytes begins here;
+} where
+  given : (bytes : Option (List ℕ)) → IfSome bytes BeginsWithSignature
+      → IfSome bytes (λ file. IsVerifiedIn before.unread_ok file before.totals.bytes v)
+      → IfSome bytes (λ file. (k : ChunkValue) × (value_of v.header k.«data» ≡ k) × IsAllowed before.unread_ok k
+      × GoesOn before.unread_ok file before.totals after.totals k)
+  given None begins here = tt
+  given (Some file) begins here =
+      let k : ChunkValue = chunk_at file before.totals.bytes in (
+        k,
+        here.header,
+        allowed_where_none before.unread_ok file before.totals.bytes here.none,
+        subst (λ (t : Totals). GoesOn before.unread_ok file before.totals t k) (sym counts)
+            (verified_goes_on before.unread_ok (Some file) before.totals v begins here),
+      )

@@ -5,6 +5,7 @@ use Rattle.highway_hash.specs.Hashers.{hasher_of}
 use Rattle.record_values.specs.Bytes.{AreBytes}
 use Rattle.chunk_header.specs.Chunks.{ChunkValue}
 use Rattle.chunk_header.specs.Kinds.{simple_kind}
+use Rattle.chunk_header.specs.Views.{value_of}
 use Rattle.simple_chunk.specs.Checkers.{HasChecked}
 use Rattle.meta_chunk.specs.Files.{is_unread}
 use Rattle.meta_chunk.specs.Laid.{IsLaid}
@@ -30,10 +31,10 @@ abbrev pub TellsUnread : ℕ → ChunkValue → Result Bool Why → Type 0
 TellsUnread hash k (Ok unread) = (unread ≡ is_unread k) × NoneOf (ContentApplies hash k) (content_reasons true)
 TellsUnread hash k (Err why) = IsFirstOf (ContentApplies hash k) (content_reasons true) why
 
--- it is the chunk at a place of a file, which is laid there, and which no reason refuses
-pub record IsVerifiedIn (file : List ℕ) (place : ℕ) (v : Verified) : Type 0 where
+-- it is the chunk at a place of a file, which is laid there, which no reason refuses, and whose header this is
+pub record IsVerifiedIn (unread_ok : Bool) (file : List ℕ) (place : ℕ) (v : Verified) : Type 0 where
   pub laid : IsLaid place (chunk_at file place) (slice_range file place (end_at file place))
-  pub none : NoneOf (Applies file place) (strict_reasons true)
+  pub none : NoneOf (Applies file place) (strict_reasons unread_ok)
   pub end : v.end ≡ end_at file place
-  pub num_records : v.num_records ≡ (chunk_at file place).num_records
+  pub header : value_of v.header (chunk_at file place).«data» ≡ chunk_at file place
   pub unread : v.unread ≡ is_unread (chunk_at file place)

@@ -1,8 +1,10 @@
 -- Inside. What a call of a reader finds in a file. Own.
-use Rattle.std.specs.Prelude.{◌≡◌, ℕ, ◌+◌, ◌^◌, ◌≤◌, Option, Some, Result, Ok, IfSome, List, [], ◌∷◌, ◌++◌}
+use Rattle.std.specs.Prelude.{◌≡◌, ℕ, ◌+◌, ◌^◌, ◌<◌, ◌≤◌, Bool, Option, Some, Result, Ok, IfSome, List, [], ◌∷◌, ◌++◌}
 use Rattle.block_layout.specs.Layout.{IsBoundary}
+use Rattle.record_values.specs.declared.file_totals.Totals.{Totals}
 use Rattle.chunk_header.specs.Chunks.{ChunkValue}
-use Rattle.chunk_header.specs.Views.{value_of_chunk}
+use Rattle.chunk_header.specs.declared.Header.{Header}
+use Rattle.chunk_header.specs.Views.{value_of, value_of_chunk}
 use Rattle.meta_chunk.specs.Files.{totals_of, IsChainOf, IsFileOf}
 use Rattle.chunk_reader.specs.Contents.{IsJudged}
 use Rattle.chunk_reader.specs.Faults.{BeginsWithSignature, IsAllowed, IsFault}
@@ -25,15 +27,23 @@ pub record ReadsOn (file : Option (List ℕ)) (before after : ReaderValue) : Typ
   pub totals : AreInBounds after.size after.totals
   pub read : IfSome file (λ bytes. AreReadFrom after.unread_ok bytes after.totals)
 
+-- where totals count some chunks, later ones count those and this one more, which stands behind them in the file
+abbrev pub GoesOn : (unread_ok : Bool) → List ℕ → (before after : Totals) → ChunkValue → Type 0
+GoesOn unread_ok file before after k =
+    (ks : List ChunkValue) → IsChainOf (IsAllowed unread_ok) ks file before.bytes → before ≡ totals_of ks
+    → IsChainOf (IsAllowed unread_ok) (ks ++ k ∷ []) file after.bytes × (after ≡ totals_of (ks ++ k ∷ []))
+
 -- the chunk is the next one: well formed where the reader stood, and one more behind all that were given
 pub record IsNextChunk (file : Option (List ℕ)) (before after : ReaderValue) (j : Judged) : Type 0 where
   pub judged : IsJudged before.unread_ok before.size before.totals.bytes j
   pub moved : after.totals.bytes ≡ j.end
-  pub given : IfSome file (λ bytes. (ks : List ChunkValue)
-      → IsChainOf (IsAllowed before.unread_ok) ks bytes before.totals.bytes
-      → before.totals ≡ totals_of ks
-      → IsChainOf (IsAllowed before.unread_ok) (ks ++ value_of_chunk j.chunk ∷ []) bytes after.totals.bytes
-      × (after.totals ≡ totals_of (ks ++ value_of_chunk j.chunk ∷ [])))
+  pub given : IfSome file (λ bytes. GoesOn before.unread_ok bytes before.totals after.totals (value_of_chunk j.chunk))
+
+-- the next chunk was judged and not held: it has this header, and is one more behind all that were given
+pub record IsNextPassed (file : Option (List ℕ)) (before after : ReaderValue) (header : Header) : Type 0 where
+  pub moved : before.totals.bytes < after.totals.bytes
+  pub given : IfSome file (λ bytes. (k : ChunkValue) × (value_of header k.«data» ≡ k) × IsAllowed before.unread_ok k
+      × GoesOn before.unread_ok bytes before.totals after.totals k)
 
 -- a reader stands at the end of its file, which is the chunks that were given
 pub record IsReadWhole (file : Option (List ℕ)) (at : ReaderValue) : Type 0 where

@@ -1,20 +1,23 @@
-ghost use Rattle.std.specs.Prelude.{◌≡◌, ◌+◌, ◌-◌, ◌≤◌, Bool, List, None, Some, IfOk, IfSome, OnOk, OnErr, Ok, Err, ℕ};
+ghost use Rattle.std.specs.Prelude.{◌≡◌, ◌+◌, ◌-◌, ◌<◌, ◌≤◌, Bool, List, None, Some, IfOk, IfSome, IsErr, OnOk, OnErr, Ok, Err, ℕ};
 ghost use Rattle.record_io.specs.Calls.{AsksUpTo, OnlyAsks};
+ghost use Rattle.chunk_header.specs.declared.Header.{Header};
 ghost use Rattle.chunk_reader.specs.Contents.{IsJudged, IsJudgedIn};
 ghost use Rattle.chunk_reader.specs.Faults.{BeginsWithSignature};
 ghost use Rattle.chunk_reader.specs.Progress.{AreReadFrom};
-ghost use Rattle.chunk_reader.specs.Readers.{ReadsIn, ReadsOn, IsNextChunk, IsReadWhole, IsFaultBehind, IsChunkAtHand, ReadsAtMost};
+ghost use Rattle.chunk_reader.specs.Readers.{ReadsIn, ReadsOn, IsNextChunk, IsNextPassed, IsReadWhole, IsFaultBehind, IsChunkAtHand, ReadsAtMost};
 ghost use Rattle.chunk_reader.specs.SearchBounds.{MayBeReadTo};
 ghost use Rattle.chunk_reader.specs.declared.reasons.Fault.{Fault};
 ghost use Rattle.chunk_reader.specs.declared.reasons.Why.{Why};
 ghost use Rattle.chunk_reader.specs.declared.judging.Judged.{Judged};
 
+use crate::heads::{Head, head_at};
 use crate::judging::{Judged, What, strict_at};
 use crate::progress::{NO_CHUNKS, check_signature, totals_with_chunk};
 use crate::reasons::{ReadEnd, VerifyEnd};
-use chunk_header::{Chunk, Kind};
+use crate::verifying::judge_at;
+use chunk_header::{Chunk, Header, Kind};
 use meta_chunk::SIGNATURE;
-use record_io::{Bytes, Store, Totals};
+use record_io::{Bytes, Failed, Store, Totals};
 use std::alloc::Global;
 use std::marker::Model;
 
@@ -103,6 +106,50 @@ impl Reader {
         let records = judged.chunk.header.num_records;
         self.totals = totals_with_chunk(&self.totals, judged.end, records, unread);
         Ok(Some(judged))
+    }
+
+    /// Judges the next chunk behind the signature without holding it, and answers its header; `None` exactly at the end of the
+    /// file, where it has no fault. It takes no memory.
+    ///
+    /// # Errors
+    ///
+    /// Those of `next`, but for want of memory.
+    pub fn pass<S: Store>(&mut self, store: &mut S) -> Result<Option<Header>, VerifyEnd>
+        requires reads { ReadsIn (S.bytes store.old) (S.told store.old) self.old }
+        requires behind { 0 < self.old.totals.bytes }
+        ensures goes_on { ReadsOn (S.bytes store.old) self.old self.new }
+        ensures chunk { (header : Header) → result ≡ Ok (Some header) → IsNextPassed (S.bytes store.old) self.old self.new header }
+        ensures ended { result ≡ Ok None → (self.new ≡ self.old) × IsReadWhole (S.bytes store.old) self.old }
+        ensures refused { (fault : Fault) → result ≡ Err (VerifyEnd.Refused fault) → IsFaultBehind (S.bytes store.old) self.old fault }
+        ensures kept { OnErr result (self.new ≡ self.old) }
+        ensures store { OnlyAsks S.bytes S.told S.name S.faults (result ≡ Err VerifyEnd.Store) store.old store.new }
+    {
+        if self.at() >= self.size {
+            return Ok(None);
+        }
+        let passed = judge_at(store, self.size, self.at(), self.unread_ok)?;
+        let records = passed.header.num_records;
+        self.totals = totals_with_chunk(&self.totals, passed.end, records, passed.unread);
+        Ok(Some(passed.header))
+    }
+
+    /// The header that stands where the next chunk begins behind the signature; `None` where none does of which its own hash is
+    /// right. It isn't judged further, and the reader stays where it is.
+    ///
+    /// # Errors
+    ///
+    /// `Failed` only where the store failed.
+    pub fn header_ahead<S: Store>(&self, store: &mut S) -> Result<Option<Header>, Failed>
+        requires reads { ReadsIn (S.bytes store.old) (S.told store.old) self.now }
+        ensures store { OnlyAsks S.bytes S.told S.name S.faults (IsErr result) store.old store.new }
+    {
+        if self.at() == 0 || self.at() >= self.size {
+            return Ok(None);
+        }
+        match head_at(store, self.size, self.at())? {
+            Head::Right { header, .. } => Ok(Some(header)),
+            Head::Short | Head::BadHash => Ok(None),
+        }
     }
 }
 

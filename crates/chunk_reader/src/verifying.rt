@@ -1,7 +1,8 @@
-ghost use Rattle.std.specs.Prelude.{◌≡◌, ◌+◌, ◌≤◌, ◌⊎◌, List, [], Some, None, true, IfOk, IfSome, OnOk, IsErr, Err};
-ghost use Rattle.record_io.specs.Calls.{AsksUpTo, AsksWithin, HasSize};
+ghost use Rattle.std.specs.Prelude.{◌≡◌, ◌≢◌, ◌+◌, ◌≤◌, ◌⊎◌, List, [], Some, None, true, IfOk, IfSome, OnOk, IsErr, Err};
+ghost use Rattle.record_io.specs.Calls.{AsksUpTo, AsksWithin, HasSize, OnlyAsks};
 ghost use Rattle.block_layout.specs.Layout.{chunk_header_size, IsBoundary, end_of};
 ghost use Rattle.chunk_header.specs.Chunks.{ChunkValue};
+ghost use Rattle.chunk_header.specs.Kinds.{transposed_kind};
 ghost use Rattle.meta_chunk.specs.Files.{totals_of, IsWellFormed};
 ghost use Rattle.chunk_reader.specs.Pieces.{IsVerifiedIn};
 ghost use Rattle.chunk_reader.specs.Faults.{IsFault, IsVerdict};
@@ -15,7 +16,8 @@ use crate::feeding::feed_chunk;
 use crate::judging::{refused, whole_head_at};
 use crate::piece_judge::PieceJudge;
 use crate::progress::{NO_CHUNKS, SIGNATURE_ALONE, check_signature, totals_with_chunk};
-use crate::reasons::{Fault, VerifyEnd};
+use crate::reasons::{Fault, VerifyEnd, Why};
+use chunk_header::{Header, Kind, kind_of};
 use record_io::{Failed, Store, Totals};
 
 /// How far a file is well formed. Own.
@@ -93,25 +95,25 @@ fn count_front<S: Store>(store: &mut S, size: u64, totals: &mut Totals) -> Resul
     *totals = SIGNATURE_ALONE;
     while totals.bytes < size {
         let passed = verify_at(store, size, totals.bytes)?;
-        *totals = totals_with_chunk(totals, passed.end, passed.num_records, passed.unread);
+        *totals = totals_with_chunk(totals, passed.end, passed.header.num_records, passed.unread);
     }
     Ok(())
 }
 
 /// A well-formed chunk that was judged and not held.
 #[derive(Debug, Drop)]
-struct Verified {
-    end: u64,
-    num_records: u64,
-    unread: bool,
+pub(crate) struct Verified {
+    pub end: u64,
+    pub header: Header,
+    pub unread: bool,
 }
 
 /// Judges the chunk at a place. Compressed and transposed chunks are left unread.
 fn verify_at<S: Store>(store: &mut S, size: u64, at: u64) -> Result<Verified, VerifyEnd>
     requires place { MayBeginAt (S.told store.old) size at }
     ensures end { IfOk result (λ v. IsBoundary v.end × (end_of at chunk_header_size ≤ v.end) × (v.end ≤ size)
-        × (at + v.num_records ≤ v.end)) }
-    ensures passed { IfOk result (λ v. IfSome (S.bytes store.old) (λ file. IsVerifiedIn file at v)) }
+        × (at + v.header.num_records ≤ v.end)) }
+    ensures passed { IfOk result (λ v. IfSome (S.bytes store.old) (λ file. IsVerifiedIn true file at v)) }
     ensures refused { (fault : Fault) → result ≡ Err (VerifyEnd.Refused fault)
         → IfSome (S.bytes store.old) (λ file. IsVerdict true file at fault) }
     ensures handed { IfOk result (λ v. S.handed store.new + at ≤ S.handed store.old + v.end) }
@@ -124,9 +126,42 @@ fn verify_at<S: Store>(store: &mut S, size: u64, at: u64) -> Result<Verified, Ve
     match judge.finish() {
         Ok(unread) => Ok(Verified {
             end,
-            num_records: header.num_records,
+            header,
             unread,
         }),
         Err(why) => Err(refused(at, why)),
+    }
+}
+
+/// The same, but with `unread_ok` alone are compressed and transposed chunks left unread, and else refused.
+pub(crate) fn judge_at<S: Store>(
+    store: &mut S,
+    size: u64,
+    at: u64,
+    unread_ok: bool,
+) -> Result<Verified, VerifyEnd>
+    requires place { MayBeginAt (S.told store.old) size at }
+    ensures end { IfOk result (λ v. IsBoundary v.end × (end_of at chunk_header_size ≤ v.end) × (v.end ≤ size)
+        × (at + v.header.num_records ≤ v.end)) }
+    ensures passed { IfOk result (λ v. IfSome (S.bytes store.old) (λ file. IsVerifiedIn unread_ok file at v)) }
+    ensures refused { (fault : Fault) → result ≡ Err (VerifyEnd.Refused fault)
+        → IfSome (S.bytes store.old) (λ file. IsVerdict unread_ok file at fault) }
+    ensures store { OnlyAsks S.bytes S.told S.name S.faults (result ≡ Err VerifyEnd.Store) store.old store.new }
+{
+    let verified = verify_at(store, size, at)?;
+    if unread_ok || !verified.unread {
+        return Ok(verified);
+    }
+    Err(refused(at, why_unread(&verified.header)))
+}
+
+/// Why a chunk is refused that would be left unread.
+fn why_unread(header: &Header) -> Why
+    ensures transposed { header.now.kind ≡ transposed_kind → result ≡ Why.Transposed }
+    ensures other { header.now.kind ≢ transposed_kind → result ≡ Why.Compressed }
+{
+    match kind_of(header.kind) {
+        Kind::Transposed => Why::Transposed,
+        _ => Why::Compressed,
     }
 }

@@ -10,7 +10,7 @@ use Rattle.chunk_reader.specs.Faults.{IsFault, IsFirstFault}
 use Rattle.chunk_reader.specs.declared.reasons.Fault.{Fault}
 use Rattle.chunk_reader.specs.declared.reasons.ReadEnd.{ReadEnd}
 use Rattle.chunk_reader.specs.declared.reasons.ReadEnd.TheVariants.{Refused, Store}
-use Rattle.record_collect.specs.declared.feeding.Coverage.{Coverage}
+use Rattle.record_collect.specs.declared.coverage.Coverage.{Coverage}
 use Rattle.record_collect.specs.Gatherings.{AreRecordsOfEach}
 use Rattle.record_collect.specs.Takings.{AreFed, CanBeFed, HasTaken, IsFed, IsFirstStopped, IsRead, IsTakenOf}
 

@@ -1,13 +1,12 @@
 -- Lists of records, one list behind another, list by list.
-use Rattle.std.proofs.Common.{◌≡◌, ◌∙◌, ℕ, zero, suc, ◌+◌, ◌*◌, ◌-◌, ◌<◌, ◌≤◌, List, [], ◌∷◌, ◌++◌, Some, length, take, drop, get_or, sym, ap, subst, arith}
+use Rattle.std.proofs.Common.{◌≡◌, ◌∙◌, ℕ, zero, suc, ◌+◌, ◌*◌, ◌-◌, ◌<◌, ◌≤◌, List, [], ◌∷◌, ◌++◌, Some, length, take, get_or, sym, ap, subst, arith}
 use Rattle.std.specs.Prelude.{slice_get}
-use Rattle.std.specs.List.{AllByRecursion, range_with_len, sum_by}
-use Rattle.std.proofs.lemmas.List.{append-nil, drop_more, length-append, take_more}
+use Rattle.std.specs.List.{range_with_len, sum_by}
+use Rattle.std.proofs.lemmas.List.{append-nil, length-append, take_more}
 use Rattle.std.proofs.lemmas.List.Concat.{flat_map-append}
 use Rattle.std.proofs.lemmas.List.Sums.{sum_by-append, sum_by-cons}
 use Rattle.std.proofs.lemmas.Option.{slice_get_within, get_or_from_slice_get}
 use Rattle.simple_chunk.specs.Costs.{cost, cost_of}
-use Rattle.number_shares.proofs.Lists.{all_push}
 use Rattle.record_collect.specs.Batches.{HasLong, in_turn, numbers_from}
 use Rattle.record_collect.specs.Limits.{limit}
 use Rattle.record_collect.proofs.Weaves.{cost-in_turn}
@@ -22,24 +21,10 @@ pub turn_next : (lists : List (List (List ℕ))) (k : ℕ) (list : List (List �
 turn_next lists k list within is =
     ap in_turn (take_more lists k list within ∙ ap (λ (l : List (List ℕ)). take k lists ++ l ∷ []) (sym is)) ∙ turn_push (take k lists) list
 
--- and the first of those that are left
-pub turn_rest : (lists : List (List (List ℕ))) (k : ℕ) (list : List (List ℕ)) → k < length lists → list ≡ get_or lists k list
-    → in_turn (drop k lists) ≡ list ++ in_turn (drop (k + 1) lists)
-turn_rest lists k list within is =
-    ap in_turn (drop_more lists k list within ∙ ap (λ (l : List (List ℕ)). l ∷ drop (k + 1) lists) (sym is))
-
 -- each record costs 8 at least
 pub few_records : (records : List (List ℕ)) → 8 * length records ≤ cost_of records
 few_records [] = omega arith
 few_records (r ∷ records) = omega (arith, sum_by-cons cost r records, few_records records)
-
--- records that are short so far, and one more
-pub short_next : (records : List (List ℕ)) (i : ℕ) (r : List ℕ) → slice_get records i ≡ Some r → length r ≤ 16777216
-    → AllByRecursion (λ (x : List ℕ). length x ≤ 16777216) (take i records) → AllByRecursion (λ (x : List ℕ). length x ≤ 16777216) (take (i + 1) records)
-short_next records i r there short all =
-    subst (AllByRecursion (λ (x : List ℕ). length x ≤ 16777216))
-    (sym (take_more records i r (slice_get_within records i r there) ∙ ap (λ (first : List ℕ). take i records ++ first ∷ []) (get_or_from_slice_get records i r r there)))
-    (all_push (λ (x : List ℕ). length x ≤ 16777216) (take i records) r short all)
 
 -- the numbers of one list more
 pub numbers_push : (at : ℕ) (lists : List (List (List ℕ))) (list : List (List ℕ))

@@ -4,7 +4,7 @@ use Rattle.std.proofs.Math.Dec.{eqb}
 use Rattle.std.specs.List.{concat, enumerate_from, flat_map, range_with_len, slice_get}
 use Rattle.std.proofs.lemmas.Bool.{cond_both, cond-true, cond-false, cases_lt, eqb-true, eq-eqb}
 use Rattle.std.proofs.lemmas.List.{append_assoc, append-nil, drop_more, length-append, take_more}
-use Rattle.std.proofs.lemmas.List.Sums.{sum_by-append, sum_by-cons}
+use Rattle.std.proofs.lemmas.List.Sums.{sum_by-cons}
 use Rattle.std.proofs.lemmas.Option.{slice_get_within, get_or_from_slice_get}
 use Rattle.varint_wire.specs.Varint.{shortest}
 use Rattle.varint_wire.proofs.Spellings.{length-shortest}
@@ -228,17 +228,7 @@ items_more size chunk records i r done is =
     append_assoc done (next_place ready ∷ []) (places_from size (with_record (length r) ready) (drop (i + 1) records))
     ∙ ap (λ (rest : List (List ℕ)). done ++ places_from size chunk rest) (sym (rest_more records i r is))
 
--- past the last there are none
-pub rest_none : (records : List (List ℕ)) (i : ℕ) → length records ≤ i → drop i records ≡ []
-rest_none [] zero past = refl
-rest_none [] (suc i) past = refl
-rest_none (r ∷ records) zero past = absurd (omega (arith, past))
-rest_none (r ∷ records) (suc i) past = rest_none records i (omega (arith, past))
-
 -- records and those behind them
-pub places_on_none : (size : ℕ) (chunk : OpenChunk) (before : List ℕ) → PlacesOn size chunk before [] chunk before
-places_on_none size chunk before = record { all = λ later. refl }
-
 pub places_on_then : (size : ℕ) (a b c : OpenChunk) (x y z : List ℕ) (records more : List (List ℕ)) → PlacesOn size a x records b y → PlacesOn size b y more c z
     → PlacesOn size a x (records ++ more) c z
 places_on_then size a b c x y z records more h g = record {
@@ -271,9 +261,3 @@ places_on_next size a b c x y z records i r there h chunk items =
     subst (λ (rs : List (List ℕ)). PlacesOn size a x rs c z)
     (sym (take_more records i r (slice_get_within records i r there) ∙ ap (λ (first : List ℕ). take i records ++ first ∷ []) (get_or_from_slice_get records i r r there)))
     (places_on_then size a b c x y z (take i records) (r ∷ []) h here)
-
--- what records so far cost, with one more
-pub cost_so_far : (records : List (List ℕ)) (i : ℕ) (r : List ℕ) → slice_get records i ≡ Some r → cost_of (take (i + 1) records) ≡ cost_of (take i records) + cost r
-cost_so_far records i r there =
-    ap cost_of (take_more records i r (slice_get_within records i r there) ∙ ap (λ (first : List ℕ). take i records ++ first ∷ []) (get_or_from_slice_get records i r r there))
-    ∙ omega (arith, sum_by-append cost (take i records) (r ∷ []), sum_by-cons cost r [])

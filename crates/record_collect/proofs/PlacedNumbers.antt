@@ -1,5 +1,5 @@
 -- At which numbers the records of a pass stand.
-use Rattle.std.proofs.Common.{◌≡◌, ◌∙◌, ℕ, zero, suc, ◌+◌, ◌<◌, ◌≤◌, cond, Option, Some, List, [], ◌∷◌, ◌++◌, length, map, refl, sym, ap, subst, inl, inr, arith}
+use Rattle.std.proofs.Common.{◌≡◌, ◌∙◌, ℕ, zero, suc, ◌+◌, ◌<◌, ◌≤◌, cond, Some, List, [], ◌∷◌, ◌++◌, length, map, refl, sym, ap, subst, inl, inr, arith}
 use Rattle.std.proofs.Math.Dec.{eqb}
 use Rattle.std.specs.List.{AllByRecursion, flat_map, sum_by, slice_get, slice_index, range_with_len}
 use Rattle.std.specs.List.Sorted.{IsStrictlyIncreasing}
@@ -104,10 +104,6 @@ pub places_rise : (i : ℕ) (all : List Placed) → IsStrictlyIncreasing (places
 places_rise i all = (rise_of i 0 all).up
 
 -- the records stand there
-map-same : (f g : ℕ → Option Placed) (ns : List ℕ) → AllByRecursion (λ n. f n ≡ g n) ns → map f ns ≡ map g ns
-map-same f g [] all = refl
-map-same f g (n ∷ ns) all = ap (λ x. x ∷ map f ns) all.0 ∙ ap (λ l. g n ∷ l) (map-same f g ns all.1)
-
 slice_get-behind : (front : List Placed) (e : Placed) (es : List Placed) → slice_get (front ++ e ∷ es) (length front) ≡ Some e
 slice_get-behind [] e es = refl
 slice_get-behind (f ∷ front) e es = slice_get-behind front e es

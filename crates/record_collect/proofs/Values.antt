@@ -3,7 +3,7 @@ use Rattle.std.proofs.Common.{◌≡◌, List, [], ◌∷◌, replicate, lit≤,
 use Rattle.varint_wire.specs.Varint.{shortest}
 use Rattle.block_layout.specs.Layout.{chunk_end_of, end_of}
 use Rattle.record_group.specs.Groups.{groups}
-use Rattle.record_collect.specs.declared.feeding.Coverage.TheVariants.{Whole, Front}
+use Rattle.record_collect.specs.declared.coverage.Coverage.TheVariants.{Whole, TooLong, NoRoom}
 use Rattle.record_collect.specs.declared.placed.Placed.{Placed}
 use Rattle.record_collect.specs.FilePlaces.{places_in_file}
 use Rattle.record_collect.specs.Gatherings.{GatheredValue}
@@ -121,6 +121,8 @@ places_at_a_block : places_in_file (replicate 65427 0x61 ∷ (0x62 ∷ []) ∷ (
 unfolding groups chunk_end_of end_of shortest
 places_at_a_block = refl
 
--- of two files all is taken only where it is of both
-taken_of_two : (both_taken Whole Whole ≡ Whole) × (both_taken Whole Front ≡ Front) × (both_taken Front Whole ≡ Front)
-taken_of_two = (refl, refl, refl)
+-- of two files all is taken only where it is of both, a record that is too long counts more than want of room, and what there was
+-- no room for is added up
+taken_of_two : (both_taken Whole Whole ≡ Whole) × (both_taken Whole (NoRoom 9) ≡ NoRoom 9) × (both_taken (NoRoom 9) Whole ≡ NoRoom 9)
+    × (both_taken (NoRoom 9) TooLong ≡ TooLong) × (both_taken TooLong (NoRoom 9) ≡ TooLong) × (both_taken (NoRoom 9) (NoRoom 8) ≡ NoRoom 17)
+taken_of_two = (refl, refl, refl, refl, refl, refl)

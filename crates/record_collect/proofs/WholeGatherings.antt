@@ -15,15 +15,15 @@ use Rattle.chunk_reader.specs.declared.reasons.Fault.{Fault}
 use Rattle.chunk_reader.specs.declared.reasons.ReadEnd.{ReadEnd}
 use Rattle.chunk_reader.specs.declared.reasons.ReadEnd.TheVariants as read
 use Rattle.chunk_reader.proofs.ManyFiles.{first_is_one, first_or_none}
-use Rattle.record_collect.specs.declared.feeding.Coverage.{Coverage}
-use Rattle.record_collect.specs.declared.feeding.Coverage.TheVariants.{Whole, Front}
+use Rattle.record_collect.specs.declared.coverage.Coverage.{Coverage}
+use Rattle.record_collect.specs.declared.coverage.Coverage.TheVariants.{Whole, TooLong, NoRoom}
 use Rattle.record_collect.specs.declared.gathering.GatherEnd.{GatherEnd}
 use Rattle.record_collect.specs.declared.gathering.GatherEnd.TheVariants as gather
 use Rattle.record_collect.specs.Limits.{limit}
 use Rattle.record_collect.specs.Gatherings.{AreWoven, GatheredValue, IsInBounds, AreGatheredOf, AreRecordsOfEach, HasTooLong, IsTooMuch}
-use Rattle.record_collect.specs.Batches.{AreTooMuch, in_one, numbers_from}
-use Rattle.record_collect.specs.Ends.{IsGatheredBy, IsGatheredOf, IsInOneList, IsJoinedBy, TellsFirst}
-use Rattle.record_collect.specs.Takings.{AreFed, AreRead, HasTaken, IsFirstStopped}
+use Rattle.record_collect.specs.Batches.{HasLong, in_one, numbers_from}
+use Rattle.record_collect.specs.Ends.{IsGatheredBy, IsGatheredOf, IsInOneList, IsJoinedBy, IsUnheld, TellsFirst}
+use Rattle.record_collect.specs.Takings.{AreFed, AreRead, HasTaken, IsFirstStopped, IsRead, cost_unheld}
 use Rattle.record_collect.proofs.WovenCosts.{woven-cost, woven-stands}
 use Rattle.record_collect.proofs.Weaves.{in_turn-woven}
 use Rattle.record_collect.proofs.FedThreads.{AreTakings, Taking, all-taken, answers_of, fed-asked, fed-many, first-refused, helds_of, lists_of}
@@ -51,45 +51,59 @@ gathered-whole files helds answers made h read is bounds = record {
   bounds = bounds;
 }
 
--- where they cost more than the limit together, they are too much
+-- what isn't held of files costs at least so much beside what is
+cost-least : (part : Coverage) (held list : List (List ℕ)) → HasTaken part held list → cost_unheld (Ok part) + cost_of held ≤ cost_of list
+cost-least Whole held list is = omega (arith, ap cost_of is)
+cost-least TooLong held list (none, long) = omega (arith, ap cost_of none)
+cost-least (NoRoom cost) held list (none, least) = omega (arith, ap cost_of none, least)
+
+costs-least : (rows : List Taking) → sum_by cost_unheld (answers_of rows) + sum_by cost_of (helds_of rows) ≤ sum_by cost_of (lists_of rows)
+costs-least [] = omega arith
+costs-least (row ∷ rows) =
+    omega (
+      arith,
+      cost-least row.part row.held row.list row.has,
+      costs-least rows,
+      sum_by-cons cost_unheld (Ok row.part) (answers_of rows),
+      sum_by-cons cost_of row.held (helds_of rows),
+      sum_by-cons cost_of row.list (lists_of rows),
+    )
+
+-- so where that is more than the limit together, they are too much
 gathered-over : (files : List (List ℕ)) (helds : List (List (List ℕ))) (answers : List (Result Coverage ReadEnd)) → AreTakings files helds answers
-    → AreRead answers Whole → limit < sum_by cost_of helds → IsTooMuch files
-gathered-over files helds answers h read over = record { lists = helds; are = held-whole files helds answers h read; over = inr over }
+    → limit < sum_by cost_unheld answers + sum_by cost_of helds → IsTooMuch files
+gathered-over files helds answers h over = record {
+  lists = lists_of h.rows;
+  are = h.are;
+  over = inr (omega (arith, over, ap (sum_by cost_unheld) h.of_answers, ap (sum_by cost_of) h.of_helds, costs-least h.rows));
+}
 
--- and so where those of one file are
-too_much-at : (rows : List Taking) (i : ℕ) → slice_get (answers_of rows) i ≡ Some (Ok Front)
-    → HasTooLong (lists_of rows) ⊎ (limit < sum_by cost_of (lists_of rows))
-too_much-at [] i there = absurd cc
-too_much-at (row ∷ rows) zero there =
-    let part : row.part ≡ Front = cc in
-    let much : AreTooMuch row.list = subst (λ (part : Coverage). HasTaken part row.held row.list) part row.has in
-    elim much [
-      | inl h ↦
-          inl (record { list_number = 0; number = h.number; list = row.list; long = h.long; one_list = refl; one_record = h.there; too_long = h.too_long })
-      | inr over ↦ inr (omega (arith, over, sum_by-cons cost_of row.list (lists_of rows)))
-    ]
-too_much-at (row ∷ rows) (suc i) there = elim (too_much-at rows i there) [
-  | inl h ↦ inl (record {
-    list_number = suc h.list_number;
-    number = h.number;
-    list = h.list;
-    long = h.long;
-    one_list = h.one_list;
-    one_record = h.one_record;
-    too_long = h.too_long;
-  })
-  | inr over ↦ inr (omega (arith, over, sum_by-cons cost_of row.list (lists_of rows)))
-]
-
-gathered-front : (files : List (List ℕ)) (helds : List (List (List ℕ))) (answers : List (Result Coverage ReadEnd)) → AreTakings files helds answers
-    → AreRead answers Front → IsTooMuch files
-gathered-front files helds answers h read =
-    let one = read.front refl in
+-- and so where a record of one is too long
+long-at : (rows : List Taking) (i : ℕ) → slice_get (answers_of rows) i ≡ Some (Ok TooLong) → HasTooLong (lists_of rows)
+long-at [] i there = absurd cc
+long-at (row ∷ rows) zero there =
+    let part : row.part ≡ TooLong = cc in
+    let long : HasLong row.list = (subst (λ (part : Coverage). HasTaken part row.held row.list) part row.has).1 in
+    record { list_number = 0; number = long.number; list = row.list; long = long.long; one_list = refl; one_record = long.there; too_long = long.too_long }
+long-at (row ∷ rows) (suc i) there =
+    let h = long-at rows i there in
     record {
-      lists = lists_of h.rows;
-      are = h.are;
-      over = too_much-at h.rows one.0 (subst (λ (l : List (Result Coverage ReadEnd)). slice_get l one.0 ≡ Some (Ok Front)) h.of_answers one.1);
+      list_number = suc h.list_number;
+      number = h.number;
+      list = h.list;
+      long = h.long;
+      one_list = h.one_list;
+      one_record = h.one_record;
+      too_long = h.too_long;
     }
+
+gathered-long : (files : List (List ℕ)) (helds : List (List (List ℕ))) (answers : List (Result Coverage ReadEnd)) → AreTakings files helds answers
+    → (i : ℕ) → slice_get answers i ≡ Some (Ok TooLong) → IsTooMuch files
+gathered-long files helds answers h i there = record {
+  lists = lists_of h.rows;
+  are = h.are;
+  over = inl (long-at h.rows i (subst (λ (l : List (Result Coverage ReadEnd)). slice_get l i ≡ Some (Ok TooLong)) h.of_answers there));
+}
 
 -- there is a list of numbers for each file
 many-numbers : (at : ℕ) (lists : List (List (List ℕ))) → length (numbers_from at lists) ≡ length lists
@@ -167,14 +181,15 @@ module _ {S L : Type 0} (bytes : S → Option (List ℕ)) (told : S → Option �
   answers-gathered (Err (gather.Refused index fault)) stopped files tells =
       first-refused bytes told name faults helds before after answers files index fault tells fed
       (subst (λ (l : List (Result Coverage ReadEnd)). IsFirstStopped l index (read.Refused fault)) same stopped)
-  answers-gathered (Err gather.TooMuch) (inl read) files tells =
-      let front : AreRead answers Front = subst (λ (l : List (Result Coverage ReadEnd)). AreRead l Front) same read in
-      let taken = all-taken bytes told name faults helds before after answers files tells fed front.each in
-      gathered-front files helds answers taken front
-  answers-gathered (Err gather.TooMuch) (inr (read, over)) files tells =
-      let whole : AreRead answers Whole = subst (λ (l : List (Result Coverage ReadEnd)). AreRead l Whole) same read in
-      let taken = all-taken bytes told name faults helds before after answers files tells fed whole.each in
-      gathered-over files helds answers taken whole over
+  answers-gathered (Err gather.TooMuch) (read, over) files tells =
+      let each : AllByRecursion IsRead answers = subst (AllByRecursion IsRead) same read in
+      let taken = all-taken bytes told name faults helds before after answers files tells fed each in
+      elim over [
+        | inl (i, there) ↦
+            gathered-long files helds answers taken i
+            (subst (λ (l : List (Result Coverage ReadEnd)). slice_get l i ≡ Some (Ok TooLong)) same there)
+        | inr more ↦ gathered-over files helds answers taken (omega (arith, more, ap (sum_by cost_unheld) same))
+      ]
   answers-gathered (Err gather.Store) h files tells = tt
   answers-gathered (Err gather.Memory) h files tells = tt
 
@@ -203,23 +218,22 @@ listed-of all (Err gather.TooMuch) files is gathered = absurd is
 listed-of all (Err gather.Store) files is gathered = absurd is
 listed-of all (Err gather.Memory) files is gathered = tt
 
-pub listed-many : (all : GatheredValue) (result : Result GatheredValue GatherEnd) (n : ℕ) → IsInOneList result all
-    → length all.numbers ≡ n → IfOk result (λ made. length made.numbers ≡ n)
-listed-many all (Ok made) n is many = ap (λ (m : GatheredValue). length m.numbers) is ∙ many
-listed-many all (Err end) n is many = tt
-
-pub listed-store : (all : GatheredValue) (result : Result GatheredValue GatherEnd) → IsInOneList result all → ¬ (result ≡ Err gather.Store)
-listed-store all (Ok made) is failed = cc
-listed-store all (Err (gather.Refused index fault)) is failed = cc
-listed-store all (Err gather.TooMuch) is failed = cc
-listed-store all (Err gather.Store) is failed = is
-listed-store all (Err gather.Memory) is failed = cc
-
--- how gathering ends where all files were read to their ends and none is too much
+-- how gathering ends where all files were read to their ends
 pub joined_as : (result : Result GatheredValue GatherEnd) (helds : List (List (List ℕ))) (answers : List (Result Coverage ReadEnd)) → IsJoinedBy result helds
     → AreRead answers Whole → IsGatheredBy result helds answers
 joined_as (Ok made) helds answers h read = (read, h.0, h.1)
 joined_as (Err (gather.Refused index fault)) helds answers h read = absurd h
-joined_as (Err gather.TooMuch) helds answers h read = inr (read, h)
+joined_as (Err gather.TooMuch) helds answers h read = (read.each, inr (omega (arith, h)))
 joined_as (Err gather.Store) helds answers h read = absurd h
 joined_as (Err gather.Memory) helds answers h read = tt
+
+pub too_long_as : (helds : List (List (List ℕ))) (answers : List (Result Coverage ReadEnd)) → AreRead answers TooLong
+    → IsGatheredBy (Err gather.TooMuch) helds answers
+too_long_as helds answers read = (read.each, inl (read.too_long refl))
+
+pub unheld_as : (end : GatherEnd) (helds : List (List (List ℕ))) (answers : List (Result Coverage ReadEnd)) (cost : ℕ) → IsUnheld helds cost end
+    → AreRead answers (NoRoom cost) → IsGatheredBy (Err end) helds answers
+unheld_as (gather.Refused index fault) helds answers cost h read = absurd h
+unheld_as gather.TooMuch helds answers cost h read = (read.each, inr (omega (arith, h, read.no_room cost refl)))
+unheld_as gather.Store helds answers cost h read = absurd h
+unheld_as gather.Memory helds answers cost h read = tt

@@ -1,5 +1,5 @@
 -- Inside. Records in the batches that they were read in. Own.
-use Rattle.std.specs.Prelude.{◌≡◌, ℕ, ◌+◌, ◌^◌, ◌<◌, ◌≤◌, ◌⊎◌, Some, List, [], ◌∷◌, length, map, slice_get}
+use Rattle.std.specs.Prelude.{◌≡◌, ℕ, ◌+◌, ◌^◌, ◌<◌, ◌≤◌, Some, List, [], ◌∷◌, length, map, slice_get}
 use Rattle.std.specs.List.{AllByRecursion, flat_map, range_with_len}
 use Rattle.simple_chunk.specs.Costs.{cost_of}
 use Rattle.record_collect.specs.declared.span.Span.{Span}
@@ -38,7 +38,3 @@ pub record HasLong (records : List (List ℕ)) : Type 0 where
   pub long : List ℕ
   pub there : slice_get records number ≡ Some long
   pub too_long : 2 ^ 24 < length long
-
--- a record has too many bytes, or they cost more than the limit together
-abbrev pub AreTooMuch : List (List ℕ) → Type 0
-AreTooMuch records = HasLong records ⊎ (limit < cost_of records)

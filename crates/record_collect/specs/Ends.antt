@@ -1,6 +1,6 @@
 -- Inside. How gathering ends, and what it says of files and passes then. Own.
-use Rattle.std.specs.Prelude.{◌≡◌, ℕ, ◌<◌, ◌⊎◌, false, Some, Result, Ok, Err, List, slice_get}
-use Rattle.std.specs.List.{sum_by}
+use Rattle.std.specs.Prelude.{◌≡◌, ℕ, ◌+◌, ◌<◌, ◌⊎◌, false, Some, Result, Ok, Err, List, slice_get}
+use Rattle.std.specs.List.{AllByRecursion, sum_by}
 use Rattle.simple_chunk.specs.Costs.{cost_of}
 use Rattle.chunk_reader.specs.Faults.{IsFirstFault}
 use Rattle.chunk_reader.specs.declared.reasons.Fault.{Fault}
@@ -9,9 +9,9 @@ use Rattle.chunk_reader.specs.declared.reasons.ReadEnd.TheVariants as read
 use Rattle.record_collect.specs.Gatherings.{AreGatheredOf, GatheredValue, IsInBounds, IsTooMuch}
 use Rattle.record_collect.specs.Batches.{in_one}
 use Rattle.record_collect.specs.Limits.{limit}
-use Rattle.record_collect.specs.Takings.{AreRead, IsFirstStopped}
-use Rattle.record_collect.specs.declared.feeding.Coverage.{Coverage}
-use Rattle.record_collect.specs.declared.feeding.Coverage.TheVariants.{Whole, Front}
+use Rattle.record_collect.specs.Takings.{AreRead, IsFirstStopped, IsRead, cost_unheld}
+use Rattle.record_collect.specs.declared.coverage.Coverage.{Coverage}
+use Rattle.record_collect.specs.declared.coverage.Coverage.TheVariants.{Whole, TooLong}
 use Rattle.record_collect.specs.declared.gathering.GatherEnd.{GatherEnd}
 use Rattle.record_collect.specs.declared.gathering.GatherEnd.TheVariants as gather
 
@@ -36,6 +36,12 @@ IsJoinedBy (Err gather.TooMuch) files = limit < sum_by cost_of files
 IsJoinedBy (Err gather.Memory) files = Unit {0}
 IsJoinedBy (Err other) files = ⊥
 
+-- how they end up where others, which cost at least so much, aren't held
+abbrev pub IsUnheld : List (List (List ℕ)) → ℕ → GatherEnd → Type 0
+IsUnheld files cost gather.TooMuch = limit < cost + sum_by cost_of files
+IsUnheld files cost gather.Memory = Unit {0}
+IsUnheld files cost other = ⊥
+
 -- and in one list: they are these, unless memory was short
 abbrev pub IsInOneList : Result GatheredValue GatherEnd → GatheredValue → Type 0
 IsInOneList (Ok made) all = made ≡ all
@@ -46,7 +52,9 @@ IsInOneList (Err other) all = ⊥
 abbrev pub IsGatheredBy : Result GatheredValue GatherEnd → List (List (List ℕ)) → List (Result Coverage ReadEnd) → Type 0
 IsGatheredBy (Ok made) files answers = AreRead answers Whole × (made ≡ in_one files) × IsInBounds made
 IsGatheredBy (Err (gather.Refused index fault)) files answers = IsFirstStopped answers index (read.Refused fault)
-IsGatheredBy (Err gather.TooMuch) files answers = AreRead answers Front ⊎ (AreRead answers Whole × (limit < sum_by cost_of files))
+IsGatheredBy (Err gather.TooMuch) files answers =
+    AllByRecursion IsRead answers
+    × (((i : ℕ) × (slice_get answers i ≡ Some (Ok TooLong))) ⊎ (limit < sum_by cost_unheld answers + sum_by cost_of files))
 IsGatheredBy (Err gather.Store) files answers = (i : ℕ) × (slice_get answers i ≡ Some (Err read.Store))
 IsGatheredBy (Err gather.Memory) files answers = Unit {0}
 

@@ -1,11 +1,12 @@
 //! What is held of one file's records while it is read.
-ghost use Rattle.std.specs.Prelude.{◌≡◌, ◌^◌, ◌≤◌, [], ◌∷◌, ◌++◌, All, IfOk, Ok, length, nat_le, true, false, vec_len};
+ghost use Rattle.std.specs.Prelude.{◌≡◌, ℕ, ◌^◌, ◌≤◌, List, [], All, IfOk, length, nat_le, true, false, vec_len};
 ghost use Rattle.std.specs.List.{AllByRecursion, sum_by};
 ghost use Rattle.simple_chunk.specs.Costs.{cost_of};
-ghost use Rattle.record_collect.specs.Batches.{AreTooMuch, HasLong};
-ghost use Rattle.record_collect.specs.Limits.{limit};
+ghost use Rattle.record_collect.specs.Batches.{HasLong};
+ghost use Rattle.record_collect.specs.Takings.{TakesOn};
 
 use crate::collector::{LIMIT, RECORD_SIZE};
+use crate::coverage::Coverage;
 use simple_chunk::Records;
 use std::alloc::{AllocError, Global};
 use std::marker::Model;
@@ -57,14 +58,18 @@ impl FileBatches {
         self.cost
     }
 
-    /// Takes a batch behind those that it has, unless the records would be too much then, and answers whether it did.
-    pub fn take(&mut self, batch: Records) -> Result<bool, AllocError>
-        ensures taken { result ≡ Ok true → self.new ≡ self.old ++ batch }
-        ensures refused { result ≡ Ok false → AreTooMuch (self.old ++ batch) }
+    /// Takes a batch behind those that it has, unless one of its records is too long, or there is no room for it, and answers
+    /// what is held then: else none at all.
+    pub fn take(&mut self, batch: Records) -> Result<Coverage, AllocError>
+        ensures { IfOk result (λ part. TakesOn Coverage.Whole self.old part self.new batch) }
     {
         let cost = batch.cost();
-        if cost > LIMIT - self.cost || has_long(&batch) {
-            return Ok(false);
+        if cost > LIMIT - self.cost {
+            return Ok(self.let_go(cost));
+        }
+        if has_long(&batch) {
+            self.clear();
+            return Ok(Coverage::TooLong);
         }
         let count = batch.len() as u64;
         if count != 0 {
@@ -72,7 +77,23 @@ impl FileBatches {
             self.cost += cost;
             self.count += count;
         }
-        Ok(true)
+        Ok(Coverage::Whole)
+    }
+
+    /// Lets all records go, as there is no room for others behind them that cost at least so much.
+    pub fn let_go(&mut self, cost: u64) -> Coverage
+        ensures { (records : List (List ℕ)) → cost ≤ cost_of records → TakesOn Coverage.Whole self.old result self.new records }
+    {
+        let cost = self.cost.saturating_add(cost);
+        self.clear();
+        Coverage::NoRoom { cost }
+    }
+
+    /// Lets all records go.
+    fn clear(&mut self)
+        ensures { self.new ≡ [] }
+    {
+        *self = FileBatches::new(self.allocator());
     }
 }
 
@@ -101,11 +122,11 @@ pub(crate) fn empty_files(alloc: Global, count: usize) -> Result<Vec<FileBatches
     Ok(files)
 }
 
-/// Whether the records of files cost no more than 2^26 together.
-pub(crate) fn fit_together(files: &[FileBatches]) -> bool
-    ensures { result ≡ nat_le (sum_by cost_of files.now) limit }
+/// Whether the records of files cost no more than so much together.
+pub(crate) fn fit_together(files: &[FileBatches], most: u64) -> bool
+    ensures { result ≡ nat_le (sum_by cost_of files.now) most }
 {
-    let mut room = LIMIT;
+    let mut room = most;
     for file in files {
         let cost = file.cost();
         if cost > room {

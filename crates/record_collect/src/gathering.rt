@@ -2,13 +2,15 @@
 ghost use Rattle.std.specs.Prelude.{◌≡◌, ◌≤◌, IfOk, Err, length, vec_len};
 ghost use Rattle.record_io.specs.ManyStores.{AreOnlyAsked, IfAllTell};
 ghost use Rattle.record_collect.specs.declared.gathering.StoppedAt.{StoppedAt};
-ghost use Rattle.record_collect.specs.Ends.{IsGatheredBy, IsGatheredOf, IsInOneList, IsJoinedBy, TellsFirst};
+ghost use Rattle.record_collect.specs.Ends.{IsGatheredBy, IsGatheredOf, IsInOneList, IsJoinedBy, IsUnheld, TellsFirst};
 ghost use Rattle.record_collect.specs.Takings.{AreRead, AreSized, IsFirstStopped, both_taken};
 
 use crate::batches::Batches;
-use crate::feeding::Coverage;
+use crate::collector::LIMIT;
+use crate::coverage::Coverage;
 use crate::file_batches::{FileBatches, empty_files, fit_together};
 use crate::gathered::Gathered;
+use crate::room::Room;
 use crate::slots::feed_into;
 use chunk_reader::{Fault, ReadEnd};
 use record_io::Store;
@@ -90,8 +92,8 @@ fn in_one_list(alloc: Global, batches: &Batches) -> Result<Gathered, GatherEnd>
 }
 
 /// Gathers the records of 1 to 16 files, those of one behind those of another, by threads: one reads each store to its end or
-/// its fault, strictly, and holds its records as they were read, unless they are too much. `sizes` are those that the stores told,
-/// in their order, each at most 2^60. Own.
+/// its fault, strictly, and holds its records as they were read, while those of all that are held cost no more than 2^26.
+/// `sizes` are those that the stores told, in their order, each at most 2^60. Own.
 ///
 /// # Errors
 ///
@@ -116,12 +118,13 @@ pub fn gather_batches<R: Threads + Sync, S: Store + Send>(
     let Ok(mut files) = empty_files(alloc, stores.len()) else {
         return Err(GatherEnd::Memory);
     };
-    feed_into(rt, sizes, &mut files, &mut answers, stores);
+    let room = Room::new();
+    feed_into(rt, sizes, &room, &mut files, &mut answers, stores);
     all_gathered(alloc, files, &answers)
 }
 
 /// What was gathered of files, where every one was read to its end and the records are not too much.
-#[tactic(auto, using(crate::proofs::AllRead::read_as, crate::proofs::WholeGatherings::joined_as))]
+#[tactic(auto, using(crate::proofs::AllRead::read_as, crate::proofs::WholeGatherings::joined_as, crate::proofs::WholeGatherings::too_long_as, crate::proofs::WholeGatherings::unheld_as))]
 fn all_gathered(
     alloc: Global,
     files: Vec<FileBatches>,
@@ -131,7 +134,21 @@ fn all_gathered(
 {
     match all_read(answers)? {
         Coverage::Whole => joined(alloc, files),
-        Coverage::Front => Err(GatherEnd::TooMuch),
+        Coverage::TooLong => Err(GatherEnd::TooMuch),
+        Coverage::NoRoom { cost } => Err(end_unheld(&files, cost)),
+    }
+}
+
+/// Why records were not gathered, where some aren't held as there was no room, and these cost at least so much. With those that
+/// are held they are too much: only then is there no room. Of a number that threads share no clause can say so, and where they
+/// weren't, it would be want of memory.
+fn end_unheld(files: &[FileBatches], cost: u64) -> GatherEnd
+    ensures { IsUnheld files.now cost result }
+{
+    if cost <= LIMIT && fit_together(files, LIMIT - cost) {
+        GatherEnd::Memory
+    } else {
+        GatherEnd::TooMuch
     }
 }
 
@@ -139,7 +156,7 @@ fn all_gathered(
 fn joined(alloc: Global, files: Vec<FileBatches>) -> Result<Batches, GatherEnd>
     ensures { IsJoinedBy result files.items }
 {
-    if !fit_together(&files) {
+    if !fit_together(&files, LIMIT) {
         return Err(GatherEnd::TooMuch);
     }
     match Batches::of_files(alloc, files) {
@@ -184,8 +201,12 @@ fn all_read(answers: &[Result<Coverage, ReadEnd>]) -> Result<Coverage, StoppedAt
 fn both_taken(part: Coverage, more: Coverage) -> Coverage
     ensures { result ≡ both_taken part more }
 {
-    match part {
-        Coverage::Whole => more,
-        Coverage::Front => Coverage::Front,
+    match (part, more) {
+        (Coverage::Whole, _) => more,
+        (_, Coverage::Whole) => part,
+        (Coverage::NoRoom { cost }, Coverage::NoRoom { cost: others }) => Coverage::NoRoom {
+            cost: cost.saturating_add(others),
+        },
+        _ => Coverage::TooLong,
     }
 }

@@ -3,6 +3,7 @@
 
 mod batches;
 mod collector;
+mod coverage;
 mod feeding;
 mod file_batches;
 mod file_places;
@@ -11,6 +12,7 @@ mod gathered;
 mod gathering;
 pub mod laws;
 mod placed;
+mod room;
 mod slots;
 mod span;
 

@@ -2,10 +2,11 @@ use Rattle.std.proofs.Common.{◌≡◌, Option, true, Err, IfSome, List, ℕ, a
 use Rattle.block_layout.proofs.Ends.{end_of_room}
 use Rattle.record_values.specs.declared.file_totals.Totals.{Totals}
 use Rattle.chunk_reader.specs.Faults.{IsVerdict}
+use Rattle.chunk_reader.specs.Pieces.{IsVerifiedIn}
 use Rattle.chunk_reader.specs.Progress.{AreInBounds, AreReadFrom}
 use Rattle.chunk_reader.proofs.FirstChunks.{AreInBounds-signature, signature_read}
 use Rattle.chunk_reader.proofs.FrontsRead.{front_unsigned, front_refused}
-use Rattle.chunk_reader.proofs.VerifySteps.{verified_totals, verified_on}
+use Rattle.chunk_reader.proofs.VerifySteps.{verified_totals, verified_read}
 use Rattle.chunk_reader.proofs.verifying.count_front.Goals as goal
 
 pub returns-in_err-check_signature-clause-refused : goal.returns-in_err-check_signature-clause-refused
@@ -64,11 +65,13 @@ loop-totals-preserved g c =
     let passed = c.in_ok-passed.passed in
     let counts = sym c.totals_with_chunk.ensures in
     let P : Totals → Type 0 = λ t. IfSome (g.S.Store.bytes c.args.store.now) (λ file. AreReadFrom true file t) in
+    let Q : Option (List ℕ) → Type 0 = λ o. IfSome o (λ file. IsVerifiedIn true file totals.bytes passed) in
     let ends : c.totals_with_chunk.result.bytes ≡ passed.end = ap (λ (t : Totals). t.bytes) c.totals_with_chunk.ensures in record {
       signed = omega (arith, ends, c.in_ok-passed.ensures.end.1, end_of_room c.loop-totals.totals.bytes 40, kept.signed);
       bounds = subst (AreInBounds c.args.size) counts (verified_totals c.args.size totals passed kept.bounds c.in_ok-passed.ensures.end);
       read = subst P counts
-          (verified_on _ _ totals passed kept.asks.same_bytes c.in_ok-check_signature.ensures.signed c.in_ok-passed.ensures.passed kept.read);
+          (verified_read true _ totals passed c.in_ok-check_signature.ensures.signed
+          (subst Q kept.asks.same_bytes c.in_ok-passed.ensures.passed) kept.read);
       handed = omega (arith, ap (λ (t : Totals). t.bytes) c.totals_with_chunk.ensures, c.in_ok-passed.ensures.handed, kept.handed);
       asks = search rules;
     }

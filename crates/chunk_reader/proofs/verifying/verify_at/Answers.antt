@@ -58,7 +58,7 @@ returns-in-Ok-clause-passed g c =
     let at = goal.at.returns-in-Ok-clause-passed g c in
     let v : Verified = record {
       end = c.in_ok-header.end;
-      num_records = c.in_ok-header.header.num_records;
+      header = c.in_ok-header.header;
       unread = c.in-Ok.unread;
     } in
     let P : Result Bool Why → Type 0 = IsThrough (g.S.Store.bytes c.args.store.now) c.args.at c.in_ok-header.end c.in_ok-header.header c.feed_chunk.new.taker in

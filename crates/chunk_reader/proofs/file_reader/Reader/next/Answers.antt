@@ -1,10 +1,12 @@
 use Rattle.std.proofs.Common.{◌≡◌, ◌∙◌, ℕ, ◌<◌, IfSome, Bool, Err, refl, sym, ap, subst, arith, rules}
 use Rattle.record_values.specs.declared.file_totals.Totals.{Totals}
+use Rattle.chunk_header.specs.Views.{value_of_chunk}
 use Rattle.chunk_reader.specs.Contents.{IsJudged, IsJudgedIn}
 use Rattle.chunk_reader.specs.Faults.{BeginsWithSignature}
 use Rattle.chunk_reader.specs.Progress.{totals_with_chunk, AreInBounds, AreReadFrom}
+use Rattle.chunk_reader.specs.Readers.{GoesOn}
 use Rattle.chunk_reader.specs.declared.judging.Judged.{Judged}
-use Rattle.chunk_reader.proofs.ChainReads.{signed_where_read, fault_read, is_left, is_left_other, judged_shown, judged_in_shown, verdict_shown, loading_shown, room_given, AreInBounds-totals_with_chunk, GoesOn, goes_on_given, read_on, no_further_refused, no_further_unsigned, refused_end, read_to-header, read_to-chunk}
+use Rattle.chunk_reader.proofs.ChainReads.{signed_where_read, fault_read, is_left, is_left_other, judged_shown, judged_in_shown, verdict_shown, loading_shown, room_given, AreInBounds-totals_with_chunk, goes_on_given, read_on, no_further_refused, no_further_unsigned, refused_end, read_to-header, read_to-chunk}
 use Rattle.chunk_reader.proofs.file_reader.Reader.next.Goals as goal
 use Rattle.chunk_reader.proofs.file_reader.Reader.next.Goals.{Joined-matches, After-totals_with_chunk-self-inside, then-at-eq0+in_ok-judged, else-at-eq0+then-at-self+in_ok-judged-2, in-Unread, in_default}
 
@@ -149,10 +151,10 @@ goes_on : (g : _) (c : After-totals_with_chunk-self-inside g) → IfSome (g.S.St
     → IsJudged c.args.self.now.unread_ok c.args.self.now.size c.args.self.now.totals.bytes c.if-at-eq0.judged
     → IfSome (g.S.Store.bytes c.args.store.now) (λ file. IsJudgedIn c.args.self.now.unread_ok file c.args.self.now.totals.bytes c.if-at-eq0.judged)
     → IfSome (g.S.Store.bytes c.args.store.now)
-    (λ file. GoesOn c.args.self.now.unread_ok file c.args.self.now.totals c.totals_with_chunk-self-inside.result c.if-at-eq0.judged)
+    (λ file. GoesOn c.args.self.now.unread_ok file c.args.self.now.totals c.totals_with_chunk-self-inside.result (value_of_chunk c.if-at-eq0.judged.chunk))
 goes_on g c signed h at =
     let now = c.args.self.now in
-    subst (λ (t : Totals). IfSome (g.S.Store.bytes c.args.store.now) (λ file. GoesOn now.unread_ok file now.totals t c.if-at-eq0.judged))
+    subst (λ (t : Totals). IfSome (g.S.Store.bytes c.args.store.now) (λ file. GoesOn now.unread_ok file now.totals t (value_of_chunk c.if-at-eq0.judged.chunk)))
     (sym (counts g c))
     (goes_on_given now.unread_ok now.size _ now.totals c.if-at-eq0.judged c.match-matches.matches signed h at (left g c))
 
@@ -172,7 +174,7 @@ returns-clause-chunk g c =
       judged = subst (IsJudged now.unread_ok now.size now.totals.bytes) same (judged g before);
       moved = ap (λ (t : Totals). t.bytes) (counts g at.After-totals_with_chunk-self-inside) ∙ ap (λ (x : Judged). x.end) same;
       given = subst (λ (x : Judged). IfSome (g.S.Store.bytes c.args.store.now)
-          (λ file. GoesOn now.unread_ok file now.totals c.totals_with_chunk-self-inside.result x)) same on;
+          (λ file. GoesOn now.unread_ok file now.totals c.totals_with_chunk-self-inside.result (value_of_chunk x.chunk))) same on;
     }
 
 pub returns-clause-goes_on : goal.returns-clause-goes_on

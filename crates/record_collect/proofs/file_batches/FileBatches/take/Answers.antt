@@ -1,24 +1,11 @@
-use Rattle.std.proofs.Common.{ap, inl, inr, arith}
-use Rattle.std.proofs.lemmas.List.Sums.{sum_by-append}
-use Rattle.simple_chunk.specs.Costs.{cost, cost_of}
+use Rattle.std.proofs.Common.{arith}
 use Rattle.record_collect.specs.Batches.{in_turn}
-use Rattle.record_collect.proofs.InTurn.{few_records, long_behind}
+use Rattle.record_collect.proofs.InTurn.{few_records}
+use Rattle.record_collect.proofs.TakenRecords.{takes_long}
 use Rattle.record_collect.proofs.file_batches.FileBatches.take.Goals as goal
-use Rattle.record_collect.proofs.file_batches.FileBatches.take.Goals.{then-cost-self-via-then-cost-self, then-cost-self-via-else-cost-self+then-has_long}
 
-pub returns-then-cost-self-clause-refused : goal.returns-then-cost-self-clause-refused
-returns-then-cost-self-clause-refused c = λ _. elim c.then-cost-self.branch [
-  | then-cost-self-via-then-cost-self w ↦ inr (omega (
-    arith,
-    w.if-cost-self.true,
-    c.cost-cost.ensures,
-    c.self.invariant.0,
-    ap cost_of c.self.view_is,
-    sum_by-append cost c.args.self.now c.args.batch,
-  ))
-  | then-cost-self-via-else-cost-self+then-has_long w ↦
-      inl (long_behind c.args.self.now c.args.batch (w.has_long.ensures.long w.if-has_long.true))
-]
+pub returns-then-has_long : goal.returns-then-has_long
+returns-then-has_long c = takes_long c.args.self.now c.clear.new.self c.args.batch c.clear.ensures (c.has_long.ensures.long c.if-has_long.true)
 
 pub overflow_add-self-then-count-ne0 : goal.overflow_add-self-then-count-ne0
 overflow_add-self-then-count-ne0 c = omega (
