@@ -112,25 +112,30 @@ pub fn written_in_pieces()
         size every last }
 {}
 
-/// Where many read the parts of a file of chunks, each from where it is split at one position up to where it is split at the next,
-/// each chunk is read in the part in which it begins. So the parts between the front and the end, in order, have the records of
-/// the file with their positions, each once. A part is one list of records, and parts that meet are one. Own.
+/// Where many read the parts of a file of chunks, each from where it is split at one position up to
+/// where it is split at the next, each chunk is read in the part in which it begins. So the parts
+/// between the front and the end, in order, have the records of the file with their positions, each
+/// once. A part is one list of records, and parts that meet are one. Own.
 pub fn parts_have_each_record_once()
     ensures begins { (ks : List ChunkValue) (position place i : ℕ)
-        → IsFirstBegin ks position place → i < length ks → (position ≤ begin_of ks i) ↔ (place ≤ begin_of ks i) }
+        → IsFirstBegin ks position place → i < length ks
+        → (position ≤ begin_of ks i) ↔ (place ≤ begin_of ks i) }
     ensures some { (ks : List ChunkValue) (file : List ℕ) (from to : ℕ)
-        → IsWellFormed ks file → length file ≤ 2 ^ 60 → from ≤ to → (part : List (ℕ × List ℕ)) × IsPart ks file from to part }
+        → IsWellFormed ks file → length file ≤ 2 ^ 60 → from ≤ to
+        → (part : List (ℕ × List ℕ)) × IsPart ks file from to part }
     ensures one { (ks : List ChunkValue) (file : List ℕ) (from to : ℕ) (a b : List (ℕ × List ℕ))
         → IsPart ks file from to a → IsPart ks file from to b → a ≡ b }
     ensures joined { (ks : List ChunkValue) (file : List ℕ) (from middle to : ℕ) (a b : List (ℕ × List ℕ))
         → IsPart ks file from middle a → IsPart ks file middle to b → IsPart ks file from to (a ++ b) }
-    ensures whole { (ks : List ChunkValue) (file cuts : List ℕ) (parts : List (List (ℕ × List ℕ))) (placed : List (ℕ × List ℕ))
+    ensures whole { (ks : List ChunkValue) (file cuts : List ℕ)
+        (parts : List (List (ℕ × List ℕ))) (placed : List (ℕ × List ℕ))
         → IsWellFormed ks file → length file ≤ 2 ^ 60 → ArePlaced ks placed
         → ArePartsFrom ks file 0 (cuts ++ length file ∷ []) parts → flat_map (λ part. part) parts ≡ placed }
 {}
 
-/// In a file of chunks a record that is found by its key stands in the chunk that is told with it: that has no fault, and in it
-/// the record has the number by which its position is past the chunk's begin. Own.
+/// In a file of chunks a record that is found by its key stands in the chunk that is told with it:
+/// that has no fault, and in it the record has the number by which its position is past the chunk's
+/// begin. Own.
 pub fn found_records_stand_in_their_chunks()
     ensures { (ks : List ChunkValue) (file key : List ℕ) (told : FoundAt) (bytes : List ℕ)
         → IsWellFormed ks file → length file ≤ 2 ^ 60 → TellsFound file key told bytes
