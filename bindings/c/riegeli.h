@@ -1,9 +1,11 @@
-/* Riegeli/records files: calls over memory. docs/LIBRARY.md is the manual.
+/* Riegeli/records files: calls over memory. docs/LIBRARY.md of the repository is the manual.
+ *
+ * Sizes, places and lengths are in bytes, but the length beside `ends` counts the numbers that it points to.
  *
  * What the caller sees to, since nothing checks it: no pointer is null, not even with a length of 0; a length is that of
- * what its pointer points to; what is written (structs, room) overlaps nothing else of the call; and no byte that is read
- * changes while the call runs. Calls keep and free nothing of the caller's, and may run side by side. Nothing proves that
- * this header says the same as the sources of the library.
+ * what its pointer points to; what is written (structs, room) overlaps nothing else of the call; no byte that is read
+ * changes while the call runs; and riegeli_version() is RIEGELI_VERSION. Calls keep and free nothing of the caller's, and
+ * may run side by side. Nothing proves that this header says the same as the sources of the library.
  */
 #ifndef RIEGELI_H
 #define RIEGELI_H
@@ -19,7 +21,7 @@ extern "C" {
 #define RIEGELI_DONE 0u
 #define RIEGELI_FAULT 1u      /* a fault, or a region, which the call tells */
 #define RIEGELI_ARGUMENT 2u   /* a bad argument */
-#define RIEGELI_MEMORY 3u     /* malloc gave none */
+#define RIEGELI_MEMORY 3u     /* malloc gave too little memory */
 #define RIEGELI_ROOM 4u       /* too little room; the call tells how much it needs */
 #define RIEGELI_NOTHING 5u    /* nothing found */
 
@@ -44,40 +46,44 @@ enum riegeli_reason {
 
 /* What riegeli_chunk.what says, and riegeli_piece.what. */
 enum riegeli_what {
-    RIEGELI_RECORDS = 1,
-    RIEGELI_PASSIVE = 2,
-    RIEGELI_UNREAD = 3,
-    RIEGELI_REGION = 4    /* of a piece alone */
+    RIEGELI_RECORDS = 1,  /* a chunk that gives records */
+    RIEGELI_PASSIVE = 2,  /* one that has none: signature, metadata or padding */
+    RIEGELI_UNREAD = 3,   /* one that is compressed or transposed, and left unread */
+    RIEGELI_REGION = 4    /* of a piece alone: bytes that are passed over */
 };
 
 struct riegeli_fault {
-    uint64_t place;   /* the chunk's begin; of a wrong block header its block */
+    uint64_t place;   /* where the chunk begins; of a wrong block header where its block begins */
     uint32_t why;     /* enum riegeli_reason */
 };
 
+/* Of a file, or of its longest front without fault. */
 struct riegeli_totals {
-    uint64_t chunks;
-    uint64_t records;
-    uint64_t bytes;
-    uint64_t unread;
+    uint64_t chunks;    /* the signature among them */
+    uint64_t records;   /* that can be read */
+    uint64_t bytes;     /* of the file or the front, not of the records alone */
+    uint64_t unread;    /* chunks that are compressed or transposed */
 };
 
 struct riegeli_chunk {
     uint64_t end;       /* where the next chunk begins */
-    uint64_t records;   /* record i has the position begin + i */
+    uint64_t records;   /* record i, from 0 on, has the position at + i, with the call's `at` */
     uint64_t bytes;     /* of all records together */
     uint32_t what;      /* enum riegeli_what */
 };
 
+/* A record that was found. In the chunk that holds its position it has the number position - begin, from 0 on; but if it was
+ * found by riegeli_find, only where the file has no fault. */
 struct riegeli_found {
     uint64_t position;
-    uint64_t begin;     /* of its chunk, in which it has the number position - begin */
-    uint64_t bytes;
+    uint64_t begin;     /* of that chunk */
+    uint64_t bytes;     /* of the record */
 };
 
+/* With RIEGELI_ROOM: how much room is enough for each. */
 struct riegeli_repaired {
     uint64_t bytes;     /* of the repaired file */
-    uint64_t lines;     /* of the lines that tell its regions */
+    uint64_t lines;     /* how many bytes the lines have that tell its regions, not how many lines there are */
 };
 
 struct riegeli_region {
@@ -89,7 +95,7 @@ struct riegeli_region {
 struct riegeli_piece {
     uint64_t begin;
     uint64_t end;       /* where the next piece begins */
-    uint64_t records;   /* record i has the position begin + i */
+    uint64_t records;   /* record i, from 0 on, has the position begin + i */
     uint64_t bytes;     /* of all records together */
     uint32_t what;      /* enum riegeli_what */
     uint32_t why;       /* of a region, enum riegeli_reason; else 0 */
@@ -103,7 +109,7 @@ struct riegeli_piece {
 
 struct riegeli_options {
     uint64_t chunk;   /* what the records of a chunk of several cost at most: each its bytes and 8 more; 1 to 2^24 */
-    uint64_t every;   /* how many records a chunk has at most, up to 2^24; 0: no number */
+    uint64_t every;   /* how many records a chunk has at most, up to 2^24; 0: no limit */
     uint32_t pad;     /* RIEGELI_PAD_.. */
 };
 
