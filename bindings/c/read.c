@@ -59,5 +59,6 @@ int main(int count, char **words) {
     struct riegeli_fault fault;
     uint32_t status = print_file(bytes, size, &fault);
     if (status == RIEGELI_FAULT) fprintf(stderr, "refused %" PRIu64 " %" PRIu32 "\n", fault.place, fault.why);
-    return status == RIEGELI_NOTHING && fflush(stdout) == 0 ? 0 : 1;
+    if (status != RIEGELI_NOTHING) return (int)status;
+    return fflush(stdout) == 0 && !ferror(stdout) ? 0 : 1;
 }

@@ -72,5 +72,5 @@ int main(int count, char **words) {
     free(writer.values);
     free(writer.ends);
     free(writer.room);
-    return ferror(stdin) != 0 || fclose(writer.to) != 0 ? 1 : 0;
+    return feof(stdin) != 0 && fclose(writer.to) == 0 ? 0 : 1;
 }

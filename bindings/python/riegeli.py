@@ -165,7 +165,7 @@ class Chunk:
 
 
 class Reader:
-    """Reads a file: an iterator of its records, and a context manager.
+    """Reads a file: an iterable of its records, and a context manager.
 
     The records are those of the file's front up to its first fault, which is raised behind them as a `Fault`. Several
     threads may use a reader, each with iterators of its own. After `close` every call raises `ValueError`.
@@ -279,7 +279,7 @@ class Reader:
         return self._found("riegeli_seek", _number(position))
 
     def find(self, key: bytes) -> Found | None:
-        """The first record that isn't less than a key, or None, in a file whose records are in order.
+        """The first record that isn't less than a key, or None, in a file without fault whose records are in order.
 
         Where they aren't, it is one that isn't less, and the first or right behind one that is less.
         """

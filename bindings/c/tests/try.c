@@ -1,6 +1,6 @@
 /* Tries the calls of riegeli.h over files, and says what is wrong. `.ci/bindings` builds and runs it.
  *
- *     try rooms FILE...               each call over each file, with room of each size up to what is needed
+ *     try rooms FILE...               each call over each file, with room of each size up to what is needed, where that is little
  *     try mutated SEED COUNT FILE...  each call over COUNT files that are made of these by a few changes
  *     try memory FILE...              each call with each of its requests for memory refused (linked with --wrap)
  *
@@ -229,7 +229,7 @@ static void try_split(uint64_t at) {
     }
 }
 
-/* What a search found, with the room that it wants and with every smaller one. */
+/* What a search found in so much room. */
 static uint32_t searched(int by_key, uint64_t at, const uint8_t *key, size_t key_size, struct riegeli_found *found, uint64_t room,
                          uint8_t **value) {
     struct riegeli_fault fault;
@@ -315,12 +315,15 @@ static void try_repair(int each_room) {
     CHECK((told.lines == 0) == (needed.lines == 0) && (told.lines == 0 || lines[told.lines - 1] == '\n'));
     CHECK(riegeli_verify(made, told.bytes, &totals, &fault) == RIEGELI_DONE);
     if (is_whole()) CHECK(told.lines == 0 && totals.records == seen.records && totals.unread == seen.unread);
-    uint64_t step = each_room ? 1 : needed.bytes / 3 + 1;
+    uint64_t used = told.lines, step = each_room ? 1 : needed.bytes / 3 + 1;
     for (uint64_t room = 0; room < needed.bytes; room += step) {
         CHECK(repaired(UINT64_MAX, room, needed.lines, &told, &region, &made, &lines) == RIEGELI_ROOM && told.bytes == needed.bytes);
     }
+    step = each_room ? 1 : used / 3 + 1;
+    for (uint64_t room = 0; room < used; room += step) {
+        CHECK(repaired(UINT64_MAX, needed.bytes, room, &told, &region, &made, &lines) == RIEGELI_ROOM && told.lines == needed.lines);
+    }
     if (needed.lines > 0) {
-        CHECK(repaired(UINT64_MAX, needed.bytes, 0, &told, &region, &made, &lines) == RIEGELI_ROOM && told.lines == needed.lines);
         CHECK(repaired(0, needed.bytes, needed.lines, &told, &region, &made, &lines) == RIEGELI_FAULT);
         CHECK(region.begin < region.end && region.end <= size && 1 <= region.why && region.why <= RIEGELI_CONTRADICTED);
     }

@@ -143,7 +143,7 @@ impl<'a> Reader<'a> {
         })
     }
 
-    /// The first record that isn't less than a key, in a file whose records are in order.
+    /// The first record that isn't less than a key, in a file without fault whose records are in order.
     pub fn find(&self, key: &[u8]) -> Result<Option<Found>, Error> {
         self.found(|found, value, fault| unsafe {
             let (file, size) = (self.file.as_ptr(), self.file.len());

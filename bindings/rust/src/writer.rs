@@ -1,6 +1,9 @@
 use crate::{error_of, sys, Error};
 use std::io::Write;
 
+/// The most bytes of a record that is written.
+const LONGEST: usize = 1 << 24;
+
 /// Whether padding is laid, so that the first chunk of records begins at a block, and the file ends at one.
 #[derive(Clone, Copy, Debug, Default, PartialEq, Eq)]
 pub enum Pad {
@@ -60,8 +63,12 @@ impl<W: Write> Writer<W> {
         }
     }
 
-    /// Puts a record of at most 2^24 bytes behind those before. After an error the file isn't whole.
+    /// Puts a record of at most 2^24 bytes behind those before. A longer one is `Error::Argument` and left out, and the next one
+    /// may be put; after any other error the file isn't whole.
     pub fn write(&mut self, record: &[u8]) -> Result<(), Error> {
+        if record.len() > LONGEST {
+            return Err(Error::Argument);
+        }
         self.values.extend_from_slice(record);
         self.ends.push(self.values.len() as u64);
         let cost = self.values.len() as u64 + 8 * self.ends.len() as u64;

@@ -109,8 +109,17 @@ fn a_file_without_bytes_has_a_fault() {
 fn options_out_of_range_are_refused() {
     let options = Options { chunk: 0, ..Options::default() };
     assert!(matches!(Writer::new(Vec::new(), options).finish(), Err(Error::Argument)));
+}
+
+#[test]
+fn a_record_that_is_too_long_is_left_out() {
     let mut writer = Writer::new(Vec::new(), Options::default());
+    writer.write(b"a").unwrap();
     assert!(matches!(writer.write(&vec![0; (1 << 24) + 1]), Err(Error::Argument)));
+    writer.write(b"b").unwrap();
+    writer.write(&vec![0; 1 << 24]).unwrap();
+    let file = writer.finish().unwrap();
+    assert_eq!(records_of(Reader::new(&file)), [b"a".to_vec(), b"b".to_vec(), vec![0; 1 << 24]]);
 }
 
 #[test]
