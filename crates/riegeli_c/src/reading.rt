@@ -41,7 +41,8 @@ pub struct FileTotals {
 pub struct ChunkTold {
     /// Where it ends, and the next one begins, in bytes from the file's front.
     pub end: u64,
-    /// How many records it gives. The record of number i has the position begin + i.
+    /// How many records it gives. The record of number i, from 0 on, has the position at + i, with
+    /// the call's `at`.
     pub records: u64,
     /// How many bytes they have together.
     pub bytes: u64,
@@ -104,8 +105,8 @@ fn totals_told(totals: &Totals) -> FileTotals
 ///
 /// 0: `chunk` tells of it, and its records are given. 1: `fault` is its fault. 2: the file has more
 /// than 2^60 bytes or ends before the place, or no chunk can begin there. 3: there is too little
-/// memory. 4: there is too little room; `chunk` tells of it all the same, so that `bytes` bytes and
-/// `records` places are needed. 5: the file ends at the place.
+/// memory. 4: there is too little room; `chunk` tells of it all the same: `bytes` bytes of `values`
+/// and `records` numbers of `ends` are needed. 5: the file ends at the place.
 #[unsafe(no_mangle)]
 pub extern "C" fn riegeli_read_chunk(
     alloc: Global,

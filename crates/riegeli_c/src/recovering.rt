@@ -23,7 +23,7 @@ pub struct PieceTold {
     pub begin: u64,
     /// Where it ends, and the next one begins.
     pub end: u64,
-    /// How many records it gives. The record of number i has the position begin + i.
+    /// How many records it gives. The record of number i, from 0 on, has the position begin + i.
     pub records: u64,
     /// How many bytes they have together.
     pub bytes: u64,
@@ -43,8 +43,8 @@ pub struct PieceTold {
 /// 0: the piece is a chunk, of which `piece` tells, and its records are given. 1: it is a region,
 /// of which `piece` tells. 2: the file has more than 2^60 bytes or ends before the place, or no
 /// piece can begin there. 3: there is too little memory. 4: there is too little room; `piece` tells
-/// of the chunk all the same, so that `bytes` bytes and `records` places are needed. 5: the file
-/// ends at the place.
+/// of the chunk all the same: `bytes` bytes of `values` and `records` numbers of `ends` are needed.
+/// 5: the file ends at the place.
 #[unsafe(no_mangle)]
 pub extern "C" fn riegeli_recover(
     alloc: Global,

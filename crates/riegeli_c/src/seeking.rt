@@ -22,7 +22,8 @@ use std::alloc::Global;
 pub struct FoundAt {
     /// Its position.
     pub position: u64,
-    /// Where its chunk begins, in which it has the number position - begin.
+    /// Where the chunk begins that holds the position. In it the record has the number
+    /// position - begin, from 0 on; but if it was found by a key, only where the file has no fault.
     pub begin: u64,
     /// How many bytes it has.
     pub bytes: u64,
@@ -112,14 +113,15 @@ fn chunk_of(file: &[u8], at: u64, sought: &Found) -> u64
     }
 }
 
-/// Finds a record of a file that isn't less than a key, as bytes are compared, where all that stand
-/// before it are: the first such one, where the records are in order. Its bytes are given in
+/// Finds a record by a key, as bytes are compared. In a readable file whose records are in order it
+/// is the first that isn't less than the key; in any other readable file it is one that isn't less,
+/// and it is the first of all or stands right behind one that is less. Its bytes are given in
 /// `value`.
 ///
 /// 0: `found` tells of it. 1: `fault` is the fault that the search met, or why its chunk can't be
 /// told. 2: the file has more than 2^60 bytes. 3: there is too little memory. 4: there is too
-/// little room; `found` tells of it all the same, so that `bytes` bytes are needed. 5: there is
-/// none.
+/// little room; `found` tells of it all the same, so that `bytes` bytes are needed. 5: none was
+/// found: in a readable file the last record is less than the key, or there is no record.
 #[unsafe(no_mangle)]
 pub extern "C" fn riegeli_find(
     alloc: Global,
