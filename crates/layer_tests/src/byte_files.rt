@@ -53,7 +53,7 @@ pub(crate) fn options(size: u64, workers: u32) -> WriteOptions
 
 /// A file that is made in memory.
 pub(crate) fn sink(alloc: Global) -> Result<MemSink, AllocError> {
-    MemSink::new(alloc, 1 << 23, Vec::new(alloc), Vec::new(alloc))
+    MemSink::new(alloc, 1 << 25, Vec::new(alloc), Vec::new(alloc))
 }
 
 /// The file of the records from one byte on up to another, written by one worker in chunks of this size.

@@ -81,11 +81,12 @@ impl<'a> Source for MeetingInput<'a> {
     }
 }
 
-/// Lines of which six fill a window of several workers, and 16 one that is taken while another is put: 26, for three windows.
+/// Lines of which six fill a window of several workers, and up to 64 one that is taken while another is coded or put: so many
+/// that the second window doesn't take them all, and a third one does.
 fn lines(alloc: Global) -> Result<Vec<u8>, AllocError> {
     let line = vec![in alloc; b'a'; 262_000]?;
     let mut lines = Vec::new(alloc);
-    for _ in 0..26 {
+    for _ in 0..74 {
         lines.extend_from_slice(&line)?;
         lines.push(b'\n')?;
     }

@@ -76,11 +76,13 @@ impl From<Failed> for WriteEnd {
 /// made, that is done here.
 ///
 /// With one worker the chunks are encoded by the two threads that take and put them. Where one window holds all groups, no
-/// thread is wanted then. With several the chunks of a window are encoded by two threads of their own, while the window before
-/// is put and the one behind is taken. A window of more than 8 MiB is put before more is taken. So what is held at a time are
-/// the window that is put, of 8 MiB at most, and one more, or two with several workers, of less than 4 MiB but for the last
-/// group; in each up to 8 MiB that are kept for the next chunks; the open group; and the record behind it. No clause says what
-/// is at work at a time, or held.
+/// thread is wanted then, and a window of more than 8 MiB is put before more is taken. So what is held at a time are two
+/// windows, one of 8 MiB at most and one of less than 4 MiB but for its last group, in each up to 8 MiB that are kept for the
+/// next chunks; the open group; and the record behind it.
+///
+/// With several workers the chunks of a window are encoded by two threads of their own, while the window before is put and the
+/// one behind is taken. So three windows are held, and each of these bounds is four times as large. No clause says what is at
+/// work at a time, or held.
 ///
 /// # Errors
 ///

@@ -264,11 +264,16 @@ impl<W: Window + Send> Coming<W> {
             return (Ok(()), self.take(feed, pace));
         }
         let Coming { taken, free, taker } = self;
+        pace.begin_code();
         join_mut(
             rt,
             &mut || -> Result<(), AllocError>
                 requires codes { CodesWindows W.groups W.ready (F.pre code.now) (F.post code.now) }
-            { code_window(code, taken) },
+            {
+                let coded = code_window(code, taken);
+                pace.end_code();
+                coded
+            },
             &mut || -> Result<FeedPart, CutOff>
                 requires feed_going { L.going feed.now ≡ true }
                 requires free { W.groups free.now ≡ [] }

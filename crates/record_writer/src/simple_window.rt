@@ -11,15 +11,15 @@ use std::marker::Model;
 use std::thread::Threads;
 use std::{mem, thread};
 
-/// How many bytes fill a window while no other one is put, so that the start of a thread costs little beside them.
+/// How many bytes fill a window while no other one is coded or put, so that the start of a thread costs little beside them.
 const LEAST: u64 = 3 << 19;
 
-/// How many bytes fill a window while another one is put.
-const FULL: u64 = LARGEST / 2;
-
 /// How many bytes a window has at most that is held while the next one is taken, and how many it keeps at most for the
-/// next chunks.
+/// next chunks. Half as many fill one while another one is coded or put.
 const LARGEST: u64 = 1 << 23;
+
+/// The same with several workers, so that taking goes on where the other threads wait for a processor.
+const LARGEST_OF_SEVERAL: u64 = 1 << 25;
 
 /// In how many threads the chunks of a window are encoded at most. With these it takes less time than to take or put them.
 const MOST_CODING: u32 = 2;
@@ -80,7 +80,7 @@ impl SimpleWindow {
         for chunk in &self.chunks {
             kept = kept.saturating_add(size_of(chunk));
         }
-        if kept > LARGEST {
+        if kept > largest(self.workers) {
             self.chunks.clear();
         }
         self.count = 0;
@@ -102,12 +102,16 @@ impl Window for SimpleWindow {
     }
 
     fn is_full(&self, pace: &Pace) -> bool {
-        let full = if pace.is_putting() { FULL } else { LEAST };
+        let full = if pace.is_behind() {
+            largest(self.workers) / 2
+        } else {
+            LEAST
+        };
         self.size >= full || self.count >= MOST_GROUPS || pace.has_failed()
     }
 
     fn is_large(&self) -> bool {
-        self.size > LARGEST
+        self.size > largest(self.workers)
     }
 
     // With one worker the chunk is encoded here until the window before is put, and else by `put`.
@@ -152,6 +156,15 @@ fn encode_first<R: Threads + Sync>(rt: &R, threads: usize, count: usize, chunks:
 {
     let (first, _) = chunks.split_at_mut(count);
     thread::for_each_mut(rt, first, threads, &|_, chunk| chunk.encode());
+}
+
+/// How many bytes a window of so many workers has at most that is held while the next one is taken.
+fn largest(workers: u32) -> u64 {
+    if workers == 1 {
+        LARGEST
+    } else {
+        LARGEST_OF_SEVERAL
+    }
 }
 
 /// About how many bytes a chunk takes.
