@@ -1,12 +1,13 @@
 -- What a search by key comes to, and with which fault it may end.
-use Rattle.std.proofs.Common.{◌≡◌, ◌⊎◌, ℕ, ◌*◌, ◌<◌, Option, Some, None, IfSome, List, [], ◌∷◌, refl, sym, subst, inl, inr, arith}
+use Rattle.std.proofs.Common.{◌≡◌, ◌⊎◌, ℕ, ◌*◌, ◌<◌, true, Option, Some, None, IfSome, List, [], ◌∷◌, refl, sym, subst, inl, inr, arith}
 use Rattle.chunk_reader.specs.Holders.{TellsBegin, IsBlockFault, ArePlacesBetween}
 use Rattle.chunk_reader.specs.Places.{end_at}
 use Rattle.chunk_reader.specs.declared.reasons.Fault.{Fault}
 use Rattle.chunk_reader.proofs.Blocks.{stands_one}
 use Rattle.record_seek.specs.Met as met
 use Rattle.record_seek.specs.Met.{IsMetBySearch, IsMetFault}
-use Rattle.record_seek.specs.Steps.{LoadsMetChunk, IsFaultOn, LoadsOn, FirstStandsBefore}
+use Rattle.record_seek.specs.Steps.{LoadsMetChunk, IsFaultOn, LoadsOn, FirstStandsBefore, IsLook}
+use Rattle.record_seek.specs.declared.finds.Look.{Look}
 use Rattle.record_seek.proofs.Ways.{same_told}
 
 -- from a place that is met, each further one is
@@ -69,22 +70,17 @@ pub begins-front : (Before : List ℕ → Type 0) (bytes : Option (List ℕ)) �
 begins-front Before None = tt
 begins-front Before (Some file) = inl refl
 
-pub begins-at : (Before : List ℕ → Type 0) (bytes now : Option (List ℕ)) (low : ℕ) → now ≡ bytes
-    → IfSome now (λ file. (begin : ℕ) × TellsBegin file (low * 65536) begin × FirstStandsBefore Before file begin)
+pub begins-at : (Before : List ℕ → Type 0) (bytes now : Option (List ℕ)) (low : ℕ) (look : Look) → now ≡ bytes
+    → IfSome now (λ file. TellsBegin file (low * 65536) look.begin) → IfSome now (IsLook Before look) → look.before ≡ true
     → IfSome bytes (BeginsBefore Before low)
-begins-at Before None now low same looked = tt
-begins-at Before (Some file) now low same looked =
-    inr (same_told (λ f. (begin : ℕ) × TellsBegin f (low * 65536) begin × FirstStandsBefore Before f begin) (Some file) now same looked)
+begins-at Before None now low look same told looked is = tt
+begins-at Before (Some file) now low look same told looked is =
+    let here : TellsBegin file (low * 65536) look.begin = same_told (λ f. TellsBegin f (low * 65536) look.begin) (Some file) now same told in
+    let first : IsLook Before look file = same_told (IsLook Before look) (Some file) now same looked in
+    inr (look.begin, here, first.before is)
 
 -- one begin is told
 pub told_one : (file : List ℕ) (block begin other : ℕ) → TellsBegin file block begin → TellsBegin file block other → begin ≡ other
 told_one file block begin other (p, n, stands, is) (q, m, also, there) =
     let same = stands_one file block p n q m stands also in
     omega (arith, is, there, same.0)
-
--- what holds from the begin that a block tells
-pub from-told : (P : List ℕ → ℕ → Type 0) (bytes now : Option (List ℕ)) (block begin : ℕ) → now ≡ bytes
-    → IfSome bytes (λ file. TellsBegin file block begin) → IfSome now (λ file. P file begin)
-    → IfSome bytes (λ file. (b : ℕ) × TellsBegin file block b × P file b)
-from-told P None now block begin same told holds = tt
-from-told P (Some file) now block begin same told holds = (begin, told, same_told (λ f. P f begin) (Some file) now same holds)

@@ -1,5 +1,5 @@
 -- How far a search by halves has come, and what it took of a file of chunks.
-use Rattle.std.proofs.Common.{◌≡◌, ◌∙◌, ◌⊎◌, ℕ, zero, suc, ◌+◌, ◌-◌, ◌*◌, ◌/◌, ◌^◌, ◌<◌, ◌≤◌, Option, Some, None, IfSome, List, [], ◌∷◌, length, get_or, refl, sym, ap, subst, inl, inr, arith}
+use Rattle.std.proofs.Common.{◌≡◌, ◌∙◌, ◌⊎◌, ℕ, zero, suc, ◌+◌, ◌-◌, ◌*◌, ◌/◌, ◌^◌, ◌<◌, ◌≤◌, false, Option, Some, None, IfSome, List, [], ◌∷◌, length, get_or, refl, sym, ap, subst, inl, inr, arith}
 use Rattle.std.proofs.lemmas.Bool.{cases_lt}
 use Rattle.std.proofs.lemmas.List.{nil_from_length}
 use Rattle.std.proofs.lemmas.Option.{slice_get_cases}
@@ -14,7 +14,8 @@ use Rattle.chunk_reader.proofs.Blocks.{stands_within}
 use Rattle.chunk_reader.proofs.HeadersTell.{passed_below, last_end, stands_below, told_end, told_records, told_is, places_are, lies_of}
 use Rattle.chunk_reader.proofs.Rooms.{IsSized}
 use Rattle.record_seek.specs.Met.{HaveNoRecords}
-use Rattle.record_seek.specs.Steps.{FirstNotBefore, EndsReading, cost_of_chunk, reading_cost}
+use Rattle.record_seek.specs.Steps.{FirstNotBefore, IsLook, EndsReading, cost_of_chunk, reading_cost}
+use Rattle.record_seek.specs.declared.finds.Look.{Look}
 use Rattle.record_seek.proofs.Finding.{IsBeginFrom}
 use Rattle.record_seek.proofs.LookCosts.{empties_within, without_drop, longest, BlockTakes}
 use Rattle.record_seek.proofs.PlacedRecords.{holds_there}
@@ -210,23 +211,22 @@ halved-up Before (Some file) bytes_now size low high spent now then same halved 
     let (e, paid) = halved ks well_formed in
     (e, after_turn _ _ _ _ _ _ paid wide (omega (arith, wide)) (omega (arith, more ks well_formed)))
 
-pub halved-down : (Before : List ℕ → Type 0) (bytes bytes_now : Option (List ℕ)) (size low high spent now then : ℕ) → bytes_now ≡ bytes
+pub halved-down : (Before : List ℕ → Type 0) (bytes bytes_now : Option (List ℕ)) (size low high spent now then : ℕ) (look : Look) → bytes_now ≡ bytes
     → IsSized bytes (Some size) → size ≤ 2 ^ 60 → IfSome bytes (IsHalved Before size low high spent now) → 1 < high - low
-    → IfSome bytes_now (BlockTakes now then)
-    → IfSome bytes_now (λ file. (begin : ℕ) × TellsBegin file ((low + (high - low) / 2) * 65536) begin × FirstNotBefore Before file begin)
-    → IfSome bytes (IsHalved Before size low (low + (high - low) / 2) spent then)
-halved-down Before None bytes_now size low high spent now then same sized reach halved wide takes looked = tt
-halved-down Before (Some file) bytes_now size low high spent now then same sized reach halved wide takes looked =
+    → IfSome bytes_now (BlockTakes now then) → IfSome bytes_now (λ file. TellsBegin file ((low + (high - low) / 2) * 65536) look.begin)
+    → IfSome bytes_now (IsLook Before look) → look.before ≡ false → IfSome bytes (IsHalved Before size low (low + (high - low) / 2) spent then)
+halved-down Before None bytes_now size low high spent now then look same sized reach halved wide takes told looked is = tt
+halved-down Before (Some file) bytes_now size low high spent now then look same sized reach halved wide takes told looked is =
     let more : BlockTakes now then file = same_told (BlockTakes now then) (Some file) bytes_now same takes in
     let block : ℕ = (low + (high - low) / 2) * 65536 in
-    let (begin, told, first) =
-    same_told (λ f. (b : ℕ) × TellsBegin f block b × FirstNotBefore Before f b) (Some file) bytes_now same looked in
-    let (previous, next, stands, is) = told in
+    let here : TellsBegin file block look.begin = same_told (λ f. TellsBegin f block look.begin) (Some file) bytes_now same told in
+    let first : IsLook Before look file = same_told (IsLook Before look) (Some file) bytes_now same looked in
+    let (previous, next, stands, at) = here in
     λ ks well_formed.
     let (e, paid) = halved ks well_formed in
     let holder = lies_of ks file well_formed block (omega (arith, stands_within file block previous next stands)) in
-    let begins = told_is ks file well_formed block begin holder.0 (omega (arith, sized, reach)) stands.is_block holder.1 told in (
-      ends_behind ks file well_formed Before block holder.0 holder.1 (subst (FirstNotBefore Before file) begins first),
+    let begins = told_is ks file well_formed block look.begin holder.0 (omega (arith, sized, reach)) stands.is_block holder.1 here in (
+      ends_behind ks file well_formed Before block holder.0 holder.1 (subst (FirstNotBefore Before file) begins (first.not_before is)),
       after_turn _ _ _ _ _ _ paid wide (omega (arith, wide)) (omega (arith, more ks well_formed)),
     )
 

@@ -12,7 +12,7 @@ use Rattle.chunk_reader.specs.PositionSearches.{HasRecordsAt}
 use Rattle.chunk_reader.specs.declared.reasons.Fault.{Fault}
 use Rattle.chunk_reader.proofs.Rooms.{IsSized}
 use Rattle.record_seek.specs.Met.{HaveNoRecords}
-use Rattle.record_seek.specs.Steps.{IsPassedAt, AreRecordsAt, IsFirstBefore, IsFirstNot, EndBefore, AreReadTo, IsReadRecord, IsFaultOn, LoadsOn, IsFirstFrom, AreFirstRecords, NoneFrom, AreNextRecords, IsPaidOn, FirstStandsBefore, FirstNotBefore}
+use Rattle.record_seek.specs.Steps.{IsPassedAt, AreRecordsAt, IsFirstBefore, IsFirstNot, EndBefore, AreReadTo, IsReadRecord, IsFaultOn, LoadsOn, IsFirstFrom, AreFirstRecords, NoneFrom, AreNextRecords, IsPaidOn, IsLook}
 use Rattle.record_seek.specs.declared.chunk_records.Found.{Found}
 use Rattle.record_seek.specs.declared.chunk_records.ChunkRecords.{ChunkRecords}
 use Rattle.record_seek.specs.declared.passes.Passed.{Passed}
@@ -110,40 +110,32 @@ pub some_at : {X : Type 0} (P : X → Type 0) (o : Option X) (x : X) → IfSome 
 some_at P (Some found) x holds is = subst (λ (o : Option _). IfSome o P) is holds
 some_at P None x holds is = cc
 
--- it does
-pub first-before : (Before : List ℕ → Type 0) (bytes : Option (List ℕ)) (from spent now : ℕ) (next : Option ChunkRecords) (held : ChunkRecords) (before : Bool)
-    → next ≡ Some held → IfSome bytes (λ file. AreNextRecords file from spent now next) → IsFirstBefore Before held.records before → before ≡ true
-    → IfSome bytes (λ file. FirstStandsBefore Before file from)
-first-before Before None from spent now next held before is first asked answer = tt
-first-before Before (Some file) from spent now next held before is first asked answer =
-    let (bytes, there, asks) = first_there Before file from spent now held before (subst (AreNextRecords file from spent now) is first) asked in
-    (bytes, there, asks.0 answer)
-
--- or it doesn't
-pub first-not : (Before : List ℕ → Type 0) (bytes : Option (List ℕ)) (from spent now : ℕ) (next : Option ChunkRecords) (held : ChunkRecords) (before : Bool)
-    → next ≡ Some held → IfSome bytes (λ file. AreNextRecords file from spent now next) → IsFirstBefore Before held.records before → before ≡ false
-    → IfSome bytes (λ file. FirstNotBefore Before file from)
-first-not Before None from spent now next held before is first asked answer = tt
-first-not Before (Some file) from spent now next held before is first asked answer =
-    let (bytes, there, asks) = first_there Before file from spent now held before (subst (AreNextRecords file from spent now) is first) asked in
-    inl (
-      bytes,
-      there,
-      λ stands.
-          let other : before ≡ true = asks.1 stands in
-          absurd (cc),
-    )
+-- and that is what a look tells
+pub look-first : (Before : List ℕ → Type 0) (bytes : Option (List ℕ)) (begin spent now : ℕ) (next : Option ChunkRecords) (held : ChunkRecords) (before : Bool)
+    → next ≡ Some held → IfSome bytes (λ file. AreNextRecords file begin spent now next) → IsFirstBefore Before held.records before
+    → IfSome bytes (IsLook Before (record { begin = begin; before = before }))
+look-first Before None begin spent now next held before is first asked = tt
+look-first Before (Some file) begin spent now next held before is first asked =
+    let (bytes, there, asks) = first_there Before file begin spent now held before (subst (AreNextRecords file begin spent now) is first) asked in
+    record {
+      before = λ answer. (bytes, there, asks.0 answer);
+      not_before = λ answer.
+          inl (
+            bytes,
+            there,
+            λ stands.
+                let other : before ≡ true = asks.1 stands in
+                absurd (cc),
+          );
+    }
 
 -- or there is none up to the file's end
-pub none-next : (bytes : Option (List ℕ)) (from spent now : ℕ) (next : Option ChunkRecords) → next ≡ None
-    → IfSome bytes (λ file. AreNextRecords file from spent now next) → IfSome bytes (λ file. NoneFrom file from)
-none-next None from spent now next is none = tt
-none-next (Some file) from spent now next is none = subst (AreNextRecords file from spent now) is none
-
-pub none-before : (Before : List ℕ → Type 0) (bytes : Option (List ℕ)) (from : ℕ) → IfSome bytes (λ file. NoneFrom file from)
-    → IfSome bytes (λ file. FirstNotBefore Before file from)
-none-before Before None from none = tt
-none-before Before (Some file) from none = inr none
+pub look-none : (Before : List ℕ → Type 0) (bytes : Option (List ℕ)) (begin spent now : ℕ) (next : Option ChunkRecords) → next ≡ None
+    → IfSome bytes (λ file. AreNextRecords file begin spent now next) → IfSome bytes (IsLook Before (record { begin = begin; before = false }))
+look-none Before None begin spent now next none is = tt
+look-none Before (Some file) begin spent now next none is =
+    let to_end : NoneFrom file begin = subst (AreNextRecords file begin spent now) none is in
+    record { before = λ answer. absurd (cc); not_before = λ _. inr to_end }
 
 pub empty-ended : (bytes : Option (List ℕ)) (size from place spent now : ℕ) → IsSized bytes (Some size) → place ≤ size → size ≤ place
     → IfSome bytes (λ file. IsEmptyTo file from place spent now) → IfSome bytes (λ file. NoneFrom file from)

@@ -1,5 +1,5 @@
 -- Inside. What the steps of a search find. Own.
-use Rattle.std.specs.Prelude.{◌≡◌, ℕ, zero, suc, ◌+◌, ◌-◌, ◌*◌, ◌^◌, ◌<◌, ◌≤◌, ◌↔◌, ◌⊎◌, Bool, IsTrue, false, Option, Some, None, List, [], ◌∷◌, ◌++◌, length, slice_get, get_or}
+use Rattle.std.specs.Prelude.{◌≡◌, ℕ, zero, suc, ◌+◌, ◌-◌, ◌*◌, ◌^◌, ◌<◌, ◌≤◌, ◌↔◌, ◌⊎◌, Bool, IsTrue, true, false, Option, Some, None, List, [], ◌∷◌, ◌++◌, length, slice_get, get_or}
 use Rattle.record_io.specs.Calls.{HasSize}
 use Rattle.block_layout.specs.Layout.{chunk_header_size, IsBoundary}
 use Rattle.chunk_header.specs.Chunks.{ChunkValue}
@@ -15,6 +15,7 @@ use Rattle.chunk_reader.specs.declared.reasons.Fault.{Fault}
 use Rattle.record_seek.specs.Met.{HaveNoRecords, IsMetBySearch}
 use Rattle.record_seek.specs.declared.chunk_records.Found.{Found}
 use Rattle.record_seek.specs.declared.chunk_records.ChunkRecords.{ChunkRecords}
+use Rattle.record_seek.specs.declared.finds.Look.{Look}
 use Rattle.record_seek.specs.declared.passes.Passed.{Passed}
 
 -- a boundary, up to a place
@@ -188,6 +189,11 @@ pub record IsPaidOn (from spent now : ℕ) (file : List ℕ) : Type 0 where
 -- the first record from a place on doesn't stand before, or there is none
 abbrev pub FirstNotBefore : (Before : List ℕ → Type 0) → List ℕ → (from : ℕ) → Type 0
 FirstNotBefore Before file from = ((bytes : List ℕ) × IsFirstFrom file from bytes × (¬ Before bytes)) ⊎ NoneFrom file from
+
+-- what a look at the first record from a place on tells of a file
+pub record IsLook (Before : List ℕ → Type 0) (look : Look) (file : List ℕ) : Type 0 where
+  pub before : look.before ≡ true → FirstStandsBefore Before file look.begin
+  pub not_before : look.before ≡ false → FirstNotBefore Before file look.begin
 
 -- reading goes no further than the chunk of this number: its first record doesn't stand before, or there is no such chunk
 abbrev pub EndsReading : (Before : List ℕ → Type 0) → List ChunkValue → ℕ → Type 0

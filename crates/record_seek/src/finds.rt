@@ -11,7 +11,7 @@ ghost use Rattle.chunk_reader.specs.declared.reasons.Fault.{Fault};
 ghost use Rattle.record_seek.specs.Found.{IsKeyFound, BytesStandBefore, OnlyFrontStandsBefore};
 ghost use Rattle.record_seek.specs.KeyTests.{IsKeyTest, StandsBefore};
 ghost use Rattle.record_seek.specs.Met.{IsMetFault, IsMetRecord, LeadsWithoutRecords, LeadsPastAll};
-ghost use Rattle.record_seek.specs.Steps.{LoadsMetChunk, IsBoundaryTo, MayReadFrom, AreRecordsFrom, AreNextRecords, IsPaidOn, IsFaultOn, LoadsOn, FirstStandsBefore, IsReadOn, FirstNotBefore, EndsReading, look_bound, reading_cost, placed_of};
+ghost use Rattle.record_seek.specs.Steps.{LoadsMetChunk, IsBoundaryTo, MayReadFrom, AreRecordsFrom, AreNextRecords, IsPaidOn, IsFaultOn, LoadsOn, IsLook, IsReadOn, EndsReading, look_bound, reading_cost, placed_of};
 
 use crate::chunk_records::{ChunkRecords, Found, first_before, first_not, records_at};
 use crate::key_tests::KeyTest;
@@ -20,6 +20,15 @@ use block_layout::BLOCK_SIZE;
 use chunk_reader::{ReadEnd, VerifyEnd};
 use record_io::Store;
 use std::alloc::Global;
+
+/// What was found at the first record from a place on.
+#[derive(Clone, Copy, Debug)]
+struct Look {
+    /// The place.
+    begin: u64,
+    /// There is such a record, and it stands before.
+    before: bool,
+}
 
 /// A record that doesn't stand before what is looked for, as a test tells, of a file of `size` bytes, which were told, at most
 /// 2^60, and of a chunk without fault to which a search may come. Those before it in the chunk stand before; where it is the
@@ -63,12 +72,17 @@ pub fn find<S: Store, F: Fn(&[u8]) -> bool + Drop>(
 {
     let mut low = 0;
     let mut high = size.div_ceil(BLOCK_SIZE);
+    let mut below = None;
+    let mut above = None;
     while high - low > 1 {
         let middle = low + (high - low) / 2;
-        if stands_before(alloc, store, size, test, middle * BLOCK_SIZE)? {
+        let look = look_at(alloc, store, size, test, middle * BLOCK_SIZE, below, above)?;
+        if look.before {
             low = middle;
+            below = Some(look);
         } else {
             high = middle;
+            above = Some(look);
         }
     }
     let begin = reading_begin(store, size, low)?;
@@ -94,20 +108,23 @@ fn reading_begin<S: Store>(store: &mut S, size: u64, low: u64) -> Result<u64, Ve
     told_begin(store, size, low * BLOCK_SIZE)
 }
 
-/// Whether there is a record from the begin on that a block tells, and the first stands before.
-fn stands_before<S: Store, F: Fn(&[u8]) -> bool + Drop>(
+/// Looks at the first record from the begin on that a block tells. All blocks that a chunk goes through tell its begin: where one
+/// of the looks at the blocks next to this one was from there, it is the answer, and the chunk isn't read again.
+fn look_at<S: Store, F: Fn(&[u8]) -> bool + Drop>(
     alloc: Global,
     store: &mut S,
     size: u64,
     test: &KeyTest<F>,
     block: u64,
-) -> Result<bool, ReadEnd>
+    below: Option<Look>,
+    above: Option<Look>,
+) -> Result<Look, ReadEnd>
     requires block { HasBlock (S.told store.old) size block }
     requires test { IsKeyTest F.Fn test.now.test }
-    ensures before { result ≡ Ok true → IfSome (S.bytes store.old) (λ file. (begin : ℕ)
-        × TellsBegin file block begin × FirstStandsBefore (StandsBefore F.Fn test.now.test) file begin) }
-    ensures not_before { result ≡ Ok false → IfSome (S.bytes store.old) (λ file. (begin : ℕ)
-        × TellsBegin file block begin × FirstNotBefore (StandsBefore F.Fn test.now.test) file begin) }
+    requires below { IfSome below (λ look. IfSome (S.bytes store.old) (IsLook (StandsBefore F.Fn test.now.test) look)) }
+    requires above { IfSome above (λ look. IfSome (S.bytes store.old) (IsLook (StandsBefore F.Fn test.now.test) look)) }
+    ensures told { IfOk result (λ look. IfSome (S.bytes store.old) (λ file. TellsBegin file block look.begin)) }
+    ensures look { IfOk result (λ look. IfSome (S.bytes store.old) (IsLook (StandsBefore F.Fn test.now.test) look)) }
     ensures refused { (fault : Fault) → result ≡ Err (ReadEnd.Refused fault)
         → IfSome (S.bytes store.old) (λ file. IsMetFault file fault) }
     ensures handed { IfSome (S.bytes store.old) (λ file. (ks : List ChunkValue)
@@ -117,10 +134,30 @@ fn stands_before<S: Store, F: Fn(&[u8]) -> bool + Drop>(
     ensures store { OnlyAsks S.bytes S.told S.name S.faults (result ≡ Err ReadEnd.Store) store.old store.new }
 {
     let begin = told_begin(store, size, block)?;
+    if let Some(look) = look_if_from(below, begin) {
+        return Ok(look);
+    }
+    if let Some(look) = look_if_from(above, begin) {
+        return Ok(look);
+    }
     let Some(chunk) = next_records(alloc, store, size, begin)? else {
-        return Ok(false);
+        return Ok(Look {
+            begin,
+            before: false,
+        });
     };
-    Ok(first_before(&chunk, test))
+    let before = first_before(&chunk, test);
+    Ok(Look { begin, before })
+}
+
+/// A look, where there is one and it was from this place.
+fn look_if_from(look: Option<Look>, begin: u64) -> Option<Look>
+    ensures { IfSome result (λ from. (from.begin ≡ begin) × (look ≡ Some from)) }
+{
+    match look {
+        Some(look) if look.begin == begin => Some(look),
+        _ => None,
+    }
 }
 
 /// The first chunk with records from a place on; `None` where there is none up to the file's end. A chunk without records is

@@ -1,13 +1,14 @@
-use Rattle.std.proofs.Common.{◌∙◌, ◌+◌, ◌-◌, ◌*◌, ◌/◌, Some, None, Ok, Err, IfSome, ap, subst, arith, rules}
+use Rattle.std.proofs.Common.{◌∙◌, ◌+◌, ◌-◌, ◌*◌, ◌/◌, Some, None, Err, IfSome, ap, subst, arith, rules}
 use Rattle.chunk_reader.proofs.Loads as loads
 use Rattle.chunk_reader.proofs.Rooms.{IsSized}
 use Rattle.record_seek.specs.KeyTests.{StandsBefore}
-use Rattle.record_seek.specs.Steps.{IsReadOn}
+use Rattle.record_seek.specs.Steps.{IsReadOn, IsLook}
 use Rattle.record_seek.proofs.Finding.{begins-front, begins-at, block-met, fault-met, loads-met}
 use Rattle.record_seek.proofs.FoundByKey.{found-in, in-order}
 use Rattle.record_seek.proofs.Halves.{halved-begun, halved-up, halved-down, takes-look, takes-begin, takes-reading}
 use Rattle.record_seek.proofs.ReadingOn.{ok_at}
 use Rattle.record_seek.proofs.RightBehind.{nothing-left, record-met}
+use Rattle.record_seek.proofs.Ways.{same_told}
 use Rattle.record_seek.proofs.finds.find.Goals as goal
 use Rattle.record_seek.proofs.finds.find.Goals.{Start}
 
@@ -62,11 +63,11 @@ returns-clause-refused g c =
     fault-met _ _ _ c.loop-high.low c.in_ok-begin.begin fault kept.asks.same_bytes (given.store.asks.same_bytes ∙ kept.asks.same_bytes) given.begin
     (c.read_on.ensures.refused fault e)
 
-pub returns-in_err-stands_before-clause-handed : goal.returns-in_err-stands_before-clause-handed
-returns-in_err-stands_before-clause-handed g c =
+pub returns-in_err-look-clause-handed : goal.returns-in_err-look-clause-handed
+returns-in_err-look-clause-handed g c =
     let kept = c.loop-high.invariant in
     takes-look (StandsBefore g.F.Fn c.args.test.now.test) _ _ c.args.size c.loop-high.low c.loop-high.high _ _ _ kept.asks.same_bytes
-    (sized g (goal.at.returns-in_err-stands_before-clause-handed g c).Start) kept.halved c.in_err-stands_before.ensures.handed
+    (sized g (goal.at.returns-in_err-look-clause-handed g c).Start) kept.halved c.in_err-look.ensures.handed
 
 pub returns-in_err-begin-clause-handed : goal.returns-in_err-begin-clause-handed
 returns-in_err-begin-clause-handed g c =
@@ -89,36 +90,42 @@ loop-high-init g c = record {
   begins = begins-front (StandsBefore g.F.Fn c.args.test.now.test) _;
   halved = halved-begun (StandsBefore g.F.Fn c.args.test.now.test) _ c.args.size c.div_ceil-high.result _
       (sized g (goal.at.loop-high-init g c).Start) (omega (arith, c.div_ceil-high.ensures));
+  below_look = tt;
+  above_look = tt;
   asks = search rules;
 }
 
-pub loop-high-preserved-then-branch : goal.loop-high-preserved-then-branch
-loop-high-preserved-then-branch g c =
+pub loop-high-preserved-then-look : goal.loop-high-preserved-then-look
+loop-high-preserved-then-look g c =
     let kept = c.loop-high.invariant in
-    let given = c.in_ok-stands_before.ensures in
+    let given = c.in_ok-look.ensures in
     record {
       ordered = omega (arith, kept.ordered, c.loop-high-test.true);
       within = kept.within;
       below = λ some. omega (arith, kept.ordered, kept.within, c.loop-high-test.true);
       begins = begins-at (StandsBefore g.F.Fn c.args.test.now.test) _ _ (c.loop-high.low + (c.loop-high.high - c.loop-high.low) / 2)
-          kept.asks.same_bytes (given.before (ap Ok c.if-branch.true));
+          c.in_ok-look.look kept.asks.same_bytes given.told given.look c.if-look.true;
       halved = halved-up (StandsBefore g.F.Fn c.args.test.now.test) _ _ c.args.size c.loop-high.low c.loop-high.high _ _ _
           kept.asks.same_bytes kept.halved c.loop-high-test.true given.handed;
+      below_look = same_told (IsLook (StandsBefore g.F.Fn c.args.test.now.test) c.in_ok-look.look) _ _ kept.asks.same_bytes given.look;
+      above_look = kept.above_look;
       asks = search rules;
     }
 
 pub loop-high-preserved : goal.loop-high-preserved
 loop-high-preserved g c =
     let kept = c.loop-high.invariant in
-    let given = c.in_ok-stands_before.ensures in
+    let given = c.in_ok-look.ensures in
     record {
       ordered = omega arith;
       within = omega (arith, kept.within, kept.ordered);
       below = kept.below;
       begins = kept.begins;
       halved = halved-down (StandsBefore g.F.Fn c.args.test.now.test) _ _ c.args.size c.loop-high.low c.loop-high.high _ _ _
-          kept.asks.same_bytes (sized g (goal.at.loop-high-preserved g c).Start) c.requires.sized.in_reach kept.halved c.loop-high-test.true
-          given.handed (given.not_before (ap Ok c.if-branch.false));
+          c.in_ok-look.look kept.asks.same_bytes (sized g (goal.at.loop-high-preserved g c).Start) c.requires.sized.in_reach kept.halved
+          c.loop-high-test.true given.handed given.told given.look c.if-look.false;
+      below_look = kept.below_look;
+      above_look = same_told (IsLook (StandsBefore g.F.Fn c.args.test.now.test) c.in_ok-look.look) _ _ kept.asks.same_bytes given.look;
       asks = search rules;
     }
 

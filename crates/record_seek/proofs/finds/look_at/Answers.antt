@@ -1,13 +1,14 @@
-use Rattle.std.proofs.Common.{Some, Err, refl, sym, ap, subst}
+use Rattle.std.proofs.Common.{Some, Err, false, refl, sym, ap, subst}
 use Rattle.chunk_reader.proofs.Loads as loads
 use Rattle.chunk_reader.proofs.Rooms.{IsSized}
 use Rattle.record_seek.specs.KeyTests.{StandsBefore}
-use Rattle.record_seek.specs.Steps.{AreRecordsFrom, FirstStandsBefore, FirstNotBefore}
-use Rattle.record_seek.proofs.Finding.{block-met, told-met, loads-told, from-told}
+use Rattle.record_seek.specs.Steps.{AreRecordsFrom, IsLook}
+use Rattle.record_seek.proofs.Finding.{block-met, told-met, loads-told}
 use Rattle.record_seek.proofs.LookCosts.{block-takes, told-takes}
-use Rattle.record_seek.proofs.ReadingOn.{some_at, first-before, first-not, none-next, none-before}
-use Rattle.record_seek.proofs.finds.stands_before.Goals as goal
-use Rattle.record_seek.proofs.finds.stands_before.Goals.{Start}
+use Rattle.record_seek.proofs.ReadingOn.{some_at, look-first, look-none}
+use Rattle.record_seek.proofs.Ways.{same_told}
+use Rattle.record_seek.proofs.finds.look_at.Goals as goal
+use Rattle.record_seek.proofs.finds.look_at.Goals.{Start}
 
 -- the told size is that of the file
 sized : (g : _) (c : Start g) → IsSized (g.S.Store.bytes c.args.store.now) (Some c.args.size)
@@ -41,40 +42,30 @@ returns-in_err-chunk-clause-memory g c =
     loads-told _ _ c.args.block c.in_ok-begin.begin c.in_ok-begin.ensures.store.asks.same_bytes c.in_ok-begin.ensures.told
     (c.in_err-chunk.ensures.memory (ap Err (sym (rw e at c.from_residual-in_err-chunk.ensures.1))))
 
-pub returns-in_default-clause-not_before : goal.returns-in_default-clause-not_before
-returns-in_default-clause-not_before g c =
-    λ e.
-    from-told (FirstNotBefore (StandsBefore g.F.Fn c.args.test.now.test)) _ _ c.args.block c.in_ok-begin.begin
-    c.in_ok-begin.ensures.store.asks.same_bytes c.in_ok-begin.ensures.told
-    (none-before (StandsBefore g.F.Fn c.args.test.now.test) _ c.in_ok-begin.begin
-    (none-next _ c.in_ok-begin.begin _ _ _ c.in_default.is c.in_ok-chunk.ensures.next))
+pub returns-in_default-2-clause-look : goal.returns-in_default-2-clause-look
+returns-in_default-2-clause-look g c =
+    let given = c.in_ok-begin.ensures in
+    same_told (IsLook (StandsBefore g.F.Fn c.args.test.now.test) (record { begin = c.in_ok-begin.begin; before = false })) _ _ given.store.asks.same_bytes
+    (look-none (StandsBefore g.F.Fn c.args.test.now.test) _ c.in_ok-begin.begin _ _ _ c.in_default-2.is c.in_ok-chunk.ensures.next)
 
-pub returns-in_default-clause-handed : goal.returns-in_default-clause-handed
-returns-in_default-clause-handed g c =
+pub returns-in_default-2-clause-handed : goal.returns-in_default-2-clause-handed
+returns-in_default-2-clause-handed g c =
     let given = c.in_ok-begin.ensures in
     told-takes _ _ c.args.size c.args.block c.in_ok-begin.begin _ _ _ given.store.asks.same_bytes
-    (sized g (goal.at.returns-in_default-clause-handed g c).Start) c.requires.block.sized.in_reach given.told given.store.handed
+    (sized g (goal.at.returns-in_default-2-clause-handed g c).Start) c.requires.block.sized.in_reach given.told given.store.handed
     c.next_records.ensures.handed
 
-pub first_before-requires-clause-chunk : goal.first_before-requires-clause-chunk
-first_before-requires-clause-chunk g c =
-    (some_at (AreRecordsFrom c.in_ok-begin.begin c.args.size) _ c.in-Some.chunk c.in_ok-chunk.ensures.chunk c.in-Some.is).of_chunk
+pub first_before-before-requires-clause-chunk : goal.first_before-before-requires-clause-chunk
+first_before-before-requires-clause-chunk g c =
+    (some_at (AreRecordsFrom c.in_ok-begin.begin c.args.size) _ c.in-Some-2.chunk c.in_ok-chunk.ensures.chunk c.in-Some-2.is).of_chunk
 
-pub returns-clause-before : goal.returns-clause-before
-returns-clause-before g c =
-    λ e.
-    from-told (FirstStandsBefore (StandsBefore g.F.Fn c.args.test.now.test)) _ _ c.args.block c.in_ok-begin.begin
-    c.in_ok-begin.ensures.store.asks.same_bytes c.in_ok-begin.ensures.told
-    (first-before (StandsBefore g.F.Fn c.args.test.now.test) _ c.in_ok-begin.begin _ _ _ c.in-Some.chunk _ c.in-Some.is
-    c.in_ok-chunk.ensures.next c.first_before.ensures (cc))
-
-pub returns-clause-not_before : goal.returns-clause-not_before
-returns-clause-not_before g c =
-    λ e.
-    from-told (FirstNotBefore (StandsBefore g.F.Fn c.args.test.now.test)) _ _ c.args.block c.in_ok-begin.begin
-    c.in_ok-begin.ensures.store.asks.same_bytes c.in_ok-begin.ensures.told
-    (first-not (StandsBefore g.F.Fn c.args.test.now.test) _ c.in_ok-begin.begin _ _ _ c.in-Some.chunk _ c.in-Some.is
-    c.in_ok-chunk.ensures.next c.first_before.ensures (cc))
+pub returns-clause-look : goal.returns-clause-look
+returns-clause-look g c =
+    let given = c.in_ok-begin.ensures in
+    same_told (IsLook (StandsBefore g.F.Fn c.args.test.now.test) (record { begin = c.in_ok-begin.begin; before = c.first_before-before.result })) _ _
+    given.store.asks.same_bytes
+    (look-first (StandsBefore g.F.Fn c.args.test.now.test) _ c.in_ok-begin.begin _ _ _ c.in-Some-2.chunk _ c.in-Some-2.is
+    c.in_ok-chunk.ensures.next c.first_before-before.ensures)
 
 pub returns-clause-handed : goal.returns-clause-handed
 returns-clause-handed g c =
