@@ -97,3 +97,9 @@ AreBytes-records (record_bytes ∷ records) h = (
   AreBytes-left record_bytes (concat records) h,
   AreBytes-records records (AreBytes-right record_bytes (concat records) h),
 )
+
+-- where a record ends behind others
+pub end-behind : (values slice record_bytes now : List ℕ) (end : ℕ) → slice ≡ values → now ≡ values ++ record_bytes
+    → end ≡ length slice + length record_bytes → end ≡ length now
+end-behind values slice record_bytes now end same appends is =
+    omega (arith, is, ap length same, ap length appends, length-append values record_bytes)

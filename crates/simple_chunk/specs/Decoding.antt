@@ -3,7 +3,7 @@ use Rattle.std.specs.Prelude.{◌≡◌, ◌↔◌, ℕ, Result, Err, List, leng
 use Rattle.varint_wire.specs.Varint.{SpellsEach}
 use Rattle.chunk_header.specs.Chunks.{ChunkValue}
 use Rattle.chunk_header.specs.SimpleChunks.{IsSimpleChunk, IsCompressed}
-use Rattle.simple_chunk.specs.Records.{AreEnds, sizes_between}
+use Rattle.simple_chunk.specs.Records.{AreHeldEnds, sizes_between}
 use Rattle.simple_chunk.specs.declared.decoding.SimpleFault.{SimpleFault}
 use Rattle.simple_chunk.specs.declared.decoding.SimpleFault.TheVariants.{Compressed, Contents, Memory}
 
@@ -16,6 +16,6 @@ pub record JudgesSimple {X : Type 0} (k : ChunkValue) (result : Result X SimpleF
 
 -- records of so many bytes together end at these places, as many as are wanted, and these bytes are spellings of their sizes
 pub record AreEndsOf (count whole : ℕ) (bytes places : List ℕ) : Type 0 where
-  pub ends : AreEnds 0 places whole
+  pub ends : AreHeldEnds places whole
   pub counted : length places ≡ count
   pub spelled : SpellsEach (sizes_between 0 places) bytes

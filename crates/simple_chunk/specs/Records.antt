@@ -1,5 +1,5 @@
 -- Inside. Records that lie joined in one list of bytes, and the places where they end. Own.
-use Rattle.std.specs.Prelude.{◌≡◌, ℕ, zero, suc, ◌-◌, ◌≤◌, List, [], ◌∷◌, slice_index, slice_range}
+use Rattle.std.specs.Prelude.{◌≡◌, ℕ, zero, suc, ◌-◌, ◌^◌, ◌<◌, ◌≤◌, List, [], ◌∷◌, length, slice_index, slice_range}
 
 -- the records that end at these places, of which the first begins at a place
 abbrev pub records_from : ℕ → List ℕ → List ℕ → List (List ℕ)
@@ -15,6 +15,11 @@ record_begin begin ends (suc i) = slice_index ends i
 abbrev pub AreEnds : ℕ → List ℕ → ℕ → Type 0
 AreEnds begin [] whole = begin ≡ whole
 AreEnds begin (end ∷ ends) whole = (begin ≤ end) × AreEnds end ends whole
+
+-- so many places at which records end can be held, as there are less than 2^32
+pub record AreHeldEnds (ends : List ℕ) (whole : ℕ) : Type 0 where
+  pub order : AreEnds 0 ends whole
+  pub few : length ends < 2 ^ 32
 
 -- how long the records are that end at these places, of which the first begins at a place
 abbrev pub sizes_between : ℕ → List ℕ → List ℕ

@@ -3,10 +3,10 @@ ghost use Rattle.chunk_header.specs.Kinds.{simple_kind};
 ghost use Rattle.chunk_header.specs.SimpleChunks.{IsSimple};
 ghost use Rattle.chunk_header.specs.Views.{value_of, value_of_chunk};
 ghost use Rattle.simple_chunk.specs.Decoding.{JudgesSimple, AreEndsOf};
-ghost use Rattle.simple_chunk.specs.Records.{records_from, AreEnds};
+ghost use Rattle.simple_chunk.specs.Records.{records_from, AreHeldEnds};
 ghost use Rattle.simple_chunk.specs.Sizes.{AreParts, AreSizes, IsSplit};
 
-use crate::record_list::Records;
+use crate::record_list::{Records, held};
 use chunk_header::{Chunk, Header};
 use record_values::Bytes;
 use std::alloc::{AllocError, Global};
@@ -72,10 +72,10 @@ fn find_records(
     alloc: Global,
     header: &Header,
     bytes: &[u8],
-) -> Result<(usize, Vec<usize>), SimpleFault>
+) -> Result<(usize, Vec<u32>), SimpleFault>
     requires simple { header.now.kind ≡ simple_kind }
     ensures within { IfOk result (λ found. found.0 ≤ length bytes.now) }
-    ensures ends { IfOk result (λ found. AreEnds 0 found.1.items (length (drop found.0 bytes.now))) }
+    ensures ends { IfOk result (λ found. AreHeldEnds found.1.items (length (drop found.0 bytes.now))) }
     ensures holds { IfOk result (λ found.
         IsSimple (value_of header.now bytes.now) (records_from 0 found.1.items (drop found.0 bytes.now))) }
     ensures judged { JudgesSimple (value_of header.now bytes.now) result }
@@ -126,13 +126,15 @@ fn read_ends(
     count: u64,
     sizes: &[u8],
     whole: usize,
-) -> Result<Option<Vec<usize>>, AllocError>
+) -> Result<Option<Vec<u32>>, AllocError>
     ensures ends { IfOk result (λ found. IfSome found (λ ends. AreEndsOf count whole sizes.now ends.items)) }
     ensures none { IfOk result (λ found. IsNone found → ¬ AreSizes count whole sizes.now) }
 {
     if count > sizes.len() as u64 {
         return Ok(None);
     }
+    let last = held(whole)?;
+    held(count as usize)?;
     let mut ends = Vec::with_capacity(alloc, count as usize)?;
     let mut rest = sizes;
     let mut end = 0;
@@ -140,14 +142,14 @@ fn read_ends(
         let Some((size, behind)) = split_varint(rest) else {
             return Ok(None);
         };
-        if size > (whole - end) as u64 {
+        if size > u64::from(last - end) {
             return Ok(None);
         }
-        end += size as usize;
+        end += size as u32;
         ends.push(end).unwrap();
         rest = behind;
     }
-    if !rest.is_empty() || end != whole {
+    if !rest.is_empty() || end != last {
         return Ok(None);
     }
     Ok(Some(ends))

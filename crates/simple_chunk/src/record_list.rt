@@ -1,8 +1,8 @@
-ghost use Rattle.std.specs.Prelude.{◌≡◌, ◌↔◌, ◌<◌, ◌≤◌, Some, [], ◌∷◌, ◌++◌, length, slice_get, IsTrue, OnOk, OnErr};
+ghost use Rattle.std.specs.Prelude.{◌≡◌, ◌↔◌, ◌+◌, ◌^◌, ◌<◌, ◌≤◌, Some, [], ◌∷◌, ◌++◌, length, slice_get, IsTrue, IfOk, OnOk, OnErr};
 ghost use Rattle.std.specs.List.{AllByRecursion, concat};
 ghost use Rattle.record_values.specs.Bytes.{AreBytes};
 ghost use Rattle.simple_chunk.specs.Costs.{cost_of};
-ghost use Rattle.simple_chunk.specs.Records.{records_from, record_begin, AreEnds};
+ghost use Rattle.simple_chunk.specs.Records.{records_from, record_begin, AreHeldEnds};
 
 use record_values::Bytes;
 use std::alloc::{AllocError, Global};
@@ -13,27 +13,28 @@ use std::mem;
 pub const RECORD_COST: u64 = 8;
 
 /// How many bytes the place takes where a record ends.
-const END_SIZE: u64 = 8;
+const END_SIZE: u64 = 4;
 
 /// Fewer bytes than these are copied: their room serves the next record then.
 const LEAST_MOVED: usize = 1 << 16;
 
-/// A growing list of records, which contracts see as that list. They lie joined in one piece of memory. Own.
+/// A growing list of records, which contracts see as that list. They lie joined in one piece of memory. There are less than 2^32
+/// of them, of less than 2^32 bytes together: more count as want of memory. Own.
 #[derive(Debug, Drop)]
 pub struct Records {
     values: Bytes,
-    ends: Vec<usize>,
+    ends: Vec<u32>,
 }
 
 impl Model for Records {
     ghost use Rattle.std.specs.Prelude.{ℕ, List, length};
-    ghost use Rattle.simple_chunk.specs.Records.{records_from, AreEnds};
+    ghost use Rattle.simple_chunk.specs.Records.{records_from, AreHeldEnds};
 
     ghost Value = { List (List ℕ) };
 
     ghost view = { λ r. records_from 0 r.ends.items r.values };
 
-    ghost invariant = { λ r. AreEnds 0 r.ends.items (length r.values) };
+    ghost invariant = { λ r. AreHeldEnds r.ends.items (length r.values) };
 }
 
 impl Records {
@@ -48,8 +49,8 @@ impl Records {
     }
 
     /// The records that end at these places of the values.
-    pub(crate) fn joined(values: Bytes, ends: Vec<usize>) -> Records
-        requires { AreEnds 0 ends.items (length values) }
+    pub(crate) fn joined(values: Bytes, ends: Vec<u32>) -> Records
+        requires { AreHeldEnds ends.items (length values) }
         ensures { result ≡ records_from 0 ends.items values }
     {
         Records { values, ends }
@@ -60,9 +61,10 @@ impl Records {
         ensures appends { OnOk result (self.new ≡ self.old ++ rec.now ∷ []) }
         ensures kept { OnErr result (self.new ≡ self.old) }
     {
+        let end = next_end(&self.ends, self.values.as_slice(), rec)?;
         self.ends.reserve(1)?;
         self.values.push_all(rec)?;
-        self.ends.push(self.values.len()).unwrap();
+        self.ends.push(end).unwrap();
         Ok(())
     }
 
@@ -76,9 +78,10 @@ impl Records {
         if !self.is_empty() || rec.len() < LEAST_MOVED || rec.len() < rec.room() / 2 {
             return self.push(rec.as_slice());
         }
+        let end = next_end(&self.ends, self.values.as_slice(), rec.as_slice())?;
         self.ends.reserve(1)?;
         mem::swap(&mut self.values, rec);
-        self.ends.push(self.values.len()).unwrap();
+        self.ends.push(end).unwrap();
         Ok(())
     }
 
@@ -118,7 +121,7 @@ impl Records {
         ensures { slice_get self.now i ≡ Some result.now }
     {
         let begin = record_begin(&self.ends, i);
-        let end = self.ends[i];
+        let end = self.ends[i] as usize;
         &self.values.as_slice()[begin..end]
     }
 
@@ -145,9 +148,27 @@ impl Records {
 }
 
 /// Where the record of this number begins, from the places where the records end.
-fn record_begin(ends: &[usize], i: usize) -> usize
+fn record_begin(ends: &[u32], i: usize) -> usize
     requires { i ≤ length ends.now }
     ensures { result ≡ record_begin 0 ends.now i }
 {
-    if i == 0 { 0 } else { ends[i - 1] }
+    if i == 0 { 0 } else { ends[i - 1] as usize }
+}
+
+/// Where a record ends behind others that end at these places of these values, where it has a place.
+fn next_end(ends: &[u32], values: &[u8], rec: &[u8]) -> Result<u32, AllocError>
+    ensures { IfOk result (λ end. (end ≡ length values.now + length rec.now) × (length ends.now + 1 < 2 ^ 32)) }
+{
+    held(ends.len() + 1)?;
+    held(values.len() + rec.len())
+}
+
+/// A place, or a number of records, as it is held.
+pub(crate) fn held(number: usize) -> Result<u32, AllocError>
+    ensures { IfOk result (λ held. held ≡ number) }
+{
+    match u32::try_from(number) {
+        Ok(held) => Ok(held),
+        Err(_) => Err(AllocError),
+    }
 }

@@ -45,4 +45,4 @@ returns-clause-holds c =
     let found : AreEndsOf c.args.header.now.num_records (length c.in-Some.values.now) c.in-Some.sizes.now c.in-Some-2.ends.items = search rules in
     rw (values-behind _ _ _ c.in-Some.ensures.parts)
     (IsSimple-ends (value_of c.args.header.now c.args.bytes.now) _ _ c.in-Some-2.ends.items c.requires.simple c.in-Some.ensures.parts
-    c.if-values-header.false found.ends found.counted found.spelled)
+    c.if-values-header.false found.ends.order found.counted found.spelled)

@@ -6,4 +6,4 @@ use Rattle.simple_chunk.proofs.record_list.Records.cost.Goals as goal
 pub returns : goal.returns
 returns c =
     rw (← c.self.view_is)
-    (omega (arith, cost_of-is, length-records_from, ap length (concat-records_from 0 c.self.inside.ends.items c.self.inside.values c.self.invariant), ap length c.as_slice.ensures.value, ap length c.as_slice-2.ensures.value))
+    (omega (arith, cost_of-is, length-records_from, ap length (concat-records_from 0 c.self.inside.ends.items c.self.inside.values c.self.invariant.order), ap length c.as_slice.ensures.value, ap length c.as_slice-2.ensures.value))

@@ -32,23 +32,23 @@ found ends values read_ends read_values records i begin end is h few same begins
 pub record_begin-begin-requires : goal.record_begin-begin-requires
 record_begin-begin-requires c = omega (arith, some_end _ _ _ c.args.i c.self.view_is c.requires, ap length c.deref.ensures.value)
 
-pub index-end-requires : goal.index-end-requires
-index-end-requires c = omega (arith, some_end _ _ _ c.args.i c.self.view_is c.requires)
+pub index-requires : goal.index-requires
+index-requires c = omega (arith, some_end _ _ _ c.args.i c.self.view_is c.requires)
 
 pub slice_bounds-result-count : goal.slice_bounds-result-count
 slice_bounds-result-count c =
-    (found _ _ _ _ _ c.args.i _ _ c.self.view_is c.self.invariant c.requires c.deref.ensures.value c.record_begin-begin.ensures c.index-end.ensures c.as_slice.ensures.value).order
+    (found _ _ _ _ _ c.args.i _ _ c.self.view_is c.self.invariant.order c.requires c.deref.ensures.value c.record_begin-begin.ensures c.index.ensures c.as_slice.ensures.value).order
 
 pub slice_bounds-result-start : goal.slice_bounds-result-start
 slice_bounds-result-start c =
-    let h = found _ _ _ _ _ c.args.i _ _ c.self.view_is c.self.invariant c.requires c.deref.ensures.value c.record_begin-begin.ensures c.index-end.ensures c.as_slice.ensures.value in
+    let h = found _ _ _ _ _ c.args.i _ _ c.self.view_is c.self.invariant.order c.requires c.deref.ensures.value c.record_begin-begin.ensures c.index.ensures c.as_slice.ensures.value in
     search rules
 
 pub slice_bounds-result-end : goal.slice_bounds-result-end
 slice_bounds-result-end c =
-    let h = found _ _ _ _ _ c.args.i _ _ c.self.view_is c.self.invariant c.requires c.deref.ensures.value c.record_begin-begin.ensures c.index-end.ensures c.as_slice.ensures.value in
+    let h = found _ _ _ _ _ c.args.i _ _ c.self.view_is c.self.invariant.order c.requires c.deref.ensures.value c.record_begin-begin.ensures c.index.ensures c.as_slice.ensures.value in
     search rules
 
 pub returns : goal.returns
 returns c =
-    (found _ _ _ _ _ c.args.i _ _ c.self.view_is c.self.invariant c.requires c.deref.ensures.value c.record_begin-begin.ensures c.index-end.ensures c.as_slice.ensures.value).is
+    (found _ _ _ _ _ c.args.i _ _ c.self.view_is c.self.invariant.order c.requires c.deref.ensures.value c.record_begin-begin.ensures c.index.ensures c.as_slice.ensures.value).is
