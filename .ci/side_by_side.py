@@ -1,5 +1,6 @@
 """Runs the tests of a script side by side, since most of their time is waiting."""
 import multiprocessing
+import signal
 import sys
 import unittest
 from pathlib import Path
@@ -24,6 +25,8 @@ def run(test):
 
 def main():
     """Runs all tests of the script, or those that its words name, and ends with status 1 where one fails."""
+    # A script that is begun in the background is handed SIGINT ignored, and would hand that on to what it tries to interrupt.
+    signal.signal(signal.SIGINT, signal.default_int_handler)
     script = sys.modules["__main__"]
     loader = unittest.defaultTestLoader
     suite = loader.loadTestsFromNames(sys.argv[1:], script) if sys.argv[1:] else loader.loadTestsFromModule(script)
