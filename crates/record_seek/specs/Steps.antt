@@ -190,7 +190,7 @@ pub record IsPaidOn (from spent now : ℕ) (file : List ℕ) : Type 0 where
 abbrev pub FirstNotBefore : (Before : List ℕ → Type 0) → List ℕ → (from : ℕ) → Type 0
 FirstNotBefore Before file from = ((bytes : List ℕ) × IsFirstFrom file from bytes × (¬ Before bytes)) ⊎ NoneFrom file from
 
--- what a look at the first record from a place on tells of a file
+-- a look is right: it tells whether the first record from its begin on stands before
 pub record IsLook (Before : List ℕ → Type 0) (look : Look) (file : List ℕ) : Type 0 where
   pub before : look.before ≡ true → FirstStandsBefore Before file look.begin
   pub not_before : look.before ≡ false → FirstNotBefore Before file look.begin

@@ -1,10 +1,9 @@
-ghost use Rattle.std.specs.Prelude.{◌≡◌, ℕ, ◌+◌, ◌*◌, ◌/◌, ◌<◌, ◌≤◌, ◌⊎◌, true, false, List, Some, None, Ok, IfOk, IfSome, Err, length, slice_get};
+ghost use Rattle.std.specs.Prelude.{◌≡◌, ℕ, ◌+◌, ◌*◌, ◌<◌, ◌≤◌, ◌⊎◌, List, Some, None, Ok, IfOk, IfSome, Err, length, slice_get};
 ghost use Rattle.chunk_header.specs.Chunks.{ChunkValue};
 ghost use Rattle.meta_chunk.specs.Files.{IsReadable, IsWellFormed, ArePlaced, begin_of};
 ghost use Rattle.record_io.specs.Calls.{AsksUpTo, HasSize, OnlyAsks};
 ghost use Rattle.block_layout.specs.Layout.{block_size, block_header_size};
 ghost use Rattle.chunk_reader.specs.Holders.{TellsBegin, IsBlockFault};
-ghost use Rattle.chunk_reader.specs.Reasons.{Applies, NoneOf, loading_reasons};
 ghost use Rattle.chunk_reader.specs.SearchBounds.{key_bound};
 ghost use Rattle.chunk_reader.specs.Sizes.{HasBlock};
 ghost use Rattle.chunk_reader.specs.declared.reasons.Fault.{Fault};
@@ -21,12 +20,11 @@ use chunk_reader::{ReadEnd, VerifyEnd};
 use record_io::Store;
 use std::alloc::Global;
 
-/// What was found at the first record from a place on.
+/// A place, and whether the first record from there on stands before.
 #[derive(Clone, Copy, Debug)]
 struct Look {
-    /// The place.
     begin: u64,
-    /// There is such a record, and it stands before.
+    /// Not where there is no such record.
     before: bool,
 }
 
@@ -108,8 +106,9 @@ fn reading_begin<S: Store>(store: &mut S, size: u64, low: u64) -> Result<u64, Ve
     told_begin(store, size, low * BLOCK_SIZE)
 }
 
-/// Looks at the first record from the begin on that a block tells. All blocks that a chunk goes through tell its begin: where one
-/// of the looks at the blocks next to this one was from there, it is the answer, and the chunk isn't read again.
+/// Looks at the first record from the begin on that a block tells. `below` and `above` are the last looks at a lower and at a
+/// higher block. All blocks that a chunk goes through tell its begin: a look that was from there is the answer, and of the chunk
+/// nothing is read again.
 fn look_at<S: Store, F: Fn(&[u8]) -> bool + Drop>(
     alloc: Global,
     store: &mut S,
@@ -154,10 +153,7 @@ fn look_at<S: Store, F: Fn(&[u8]) -> bool + Drop>(
 fn look_if_from(look: Option<Look>, begin: u64) -> Option<Look>
     ensures { IfSome result (λ from. (from.begin ≡ begin) × (look ≡ Some from)) }
 {
-    match look {
-        Some(look) if look.begin == begin => Some(look),
-        _ => None,
-    }
+    look.filter(|look| look.begin == begin)
 }
 
 /// The first chunk with records from a place on; `None` where there is none up to the file's end. A chunk without records is

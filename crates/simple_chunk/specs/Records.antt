@@ -16,7 +16,7 @@ abbrev pub AreEnds : ℕ → List ℕ → ℕ → Type 0
 AreEnds begin [] whole = begin ≡ whole
 AreEnds begin (end ∷ ends) whole = (begin ≤ end) × AreEnds end ends whole
 
--- so many places at which records end can be held, as there are less than 2^32
+-- the ends of records as a list holds them: in order, and fewer than 2^32
 pub record AreHeldEnds (ends : List ℕ) (whole : ℕ) : Type 0 where
   pub order : AreEnds 0 ends whole
   pub few : length ends < 2 ^ 32

@@ -6,7 +6,7 @@ ghost use Rattle.simple_chunk.specs.Decoding.{JudgesSimple, AreEndsOf};
 ghost use Rattle.simple_chunk.specs.Records.{records_from, AreHeldEnds};
 ghost use Rattle.simple_chunk.specs.Sizes.{AreParts, AreSizes, IsSplit};
 
-use crate::record_list::{Records, held};
+use crate::record_list::{Records, to_u32};
 use chunk_header::{Chunk, Header};
 use record_values::Bytes;
 use std::alloc::{AllocError, Global};
@@ -18,7 +18,7 @@ pub enum SimpleFault {
     Compressed,
     /// The data isn't compressed, and is not that of any records as the header counts them.
     Contents,
-    /// There was no memory for the records.
+    /// There was no memory for the records, or they are more than a list holds.
     Memory,
 }
 
@@ -133,8 +133,8 @@ fn read_ends(
     if count > sizes.len() as u64 {
         return Ok(None);
     }
-    let last = held(whole)?;
-    held(count as usize)?;
+    let last = to_u32(whole)?;
+    let count = to_u32(count as usize)?;
     let mut ends = Vec::with_capacity(alloc, count as usize)?;
     let mut rest = sizes;
     let mut end = 0;

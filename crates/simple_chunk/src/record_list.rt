@@ -18,8 +18,9 @@ const END_SIZE: u64 = 4;
 /// Fewer bytes than these are copied: their room serves the next record then.
 const LEAST_MOVED: usize = 1 << 16;
 
-/// A growing list of records, which contracts see as that list. They lie joined in one piece of memory. There are less than 2^32
-/// of them, of less than 2^32 bytes together: more count as want of memory. Own.
+/// A growing list of records, which contracts see as that list. They lie joined in one piece of memory. There are fewer than 2^32
+/// of them, of fewer than 2^32 bytes together, so that an end takes 4 bytes and no cost overflows: more count as want of memory.
+/// Own.
 #[derive(Debug, Drop)]
 pub struct Records {
     values: Bytes,
@@ -155,20 +156,17 @@ fn record_begin(ends: &[u32], i: usize) -> usize
     if i == 0 { 0 } else { ends[i - 1] as usize }
 }
 
-/// Where a record ends behind others that end at these places of these values, where it has a place.
+/// Where a record ends that comes behind these; want of memory where a list can't hold it.
 fn next_end(ends: &[u32], values: &[u8], rec: &[u8]) -> Result<u32, AllocError>
     ensures { IfOk result (λ end. (end ≡ length values.now + length rec.now) × (length ends.now + 1 < 2 ^ 32)) }
 {
-    held(ends.len() + 1)?;
-    held(values.len() + rec.len())
+    to_u32(ends.len() + 1)?;
+    to_u32(values.len() + rec.len())
 }
 
-/// A place, or a number of records, as it is held.
-pub(crate) fn held(number: usize) -> Result<u32, AllocError>
-    ensures { IfOk result (λ held. held ≡ number) }
+/// The number in 4 bytes; want of memory where it is 2^32 or more.
+pub(crate) fn to_u32(number: usize) -> Result<u32, AllocError>
+    ensures { IfOk result (λ same. same ≡ number) }
 {
-    match u32::try_from(number) {
-        Ok(held) => Ok(held),
-        Err(_) => Err(AllocError),
-    }
+    u32::try_from(number).or(Err(AllocError))
 }

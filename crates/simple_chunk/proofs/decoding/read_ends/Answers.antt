@@ -10,12 +10,12 @@ returns-then-count-sizes-clause-none c = λ _ h. omega (arith, AreSizes-few _ _ 
 
 pub returns-in_default-clause-none : goal.returns-in_default-clause-none
 returns-in_default-clause-none c = λ _ h.
-    SizesRead-unsplit _ _ _ _ _ _ _ c.loop-number.invariant.reading c.loop-number-test.true (c.in_default.ensures.none refl) h
+    SizesRead-unsplit _ _ _ _ _ _ _ c.loop-number.invariant.reading c.loop-number-test.true (c.in_default.ensures.none refl) (rw c.in_ok-count.ensures h)
 
 pub returns-then-size-from-clause-none : goal.returns-then-size-from-clause-none
 returns-then-size-from-clause-none c = λ _ h.
     let above : c.args.whole - c.loop-number.end < c.in-Some.size = omega (arith, c.if-size-from.true, c.from.ensures, c.in_ok-last.ensures) in
-    SizesRead-above _ _ _ _ _ _ _ _ _ c.loop-number.invariant.reading c.in-Some.ensures.found above h
+    SizesRead-above _ _ _ _ _ _ _ _ _ c.loop-number.invariant.reading c.in-Some.ensures.found above (rw c.in_ok-count.ensures h)
 
 pub loop-number-preserved : goal.loop-number-preserved
 loop-number-preserved c =
@@ -31,7 +31,7 @@ returns-clause-ends c =
     record {
       ends = record {
         order = subst (AreEnds 0 c.loop-number.ends.items) last reading.ends_are;
-        few = omega (arith, reading.many, c.loop-number-test.false, c.loop-number.auto.number-end, c.in_ok-held.ensures);
+        few = omega (arith, reading.many, c.loop-number-test.false, c.loop-number.auto.number-end, c.in_ok-count.ensures);
       };
       counted = search rules;
       spelled = SizesRead-spelled _ _ _ _ _ _ _ reading (nil_from_length _ (search rules));
