@@ -25,8 +25,10 @@ def run(test):
 
 def main():
     """Runs all tests of the script, or those that its words name, and ends with status 1 where one fails."""
-    # A script that is begun in the background is handed SIGINT ignored, and would hand that on to what it tries to interrupt.
+    # A script that is begun in the background is handed SIGINT ignored, and by `nohup` SIGHUP, and would hand that on to what
+    # it tries to end by them.
     signal.signal(signal.SIGINT, signal.default_int_handler)
+    signal.signal(signal.SIGHUP, signal.SIG_DFL)
     script = sys.modules["__main__"]
     loader = unittest.defaultTestLoader
     suite = loader.loadTestsFromNames(sys.argv[1:], script) if sys.argv[1:] else loader.loadTestsFromModule(script)
