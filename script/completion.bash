@@ -9,14 +9,14 @@ _riegeli_offer() {
 
 _riegeli() {
     local commands='write show verify seek repair sample join ranges append collect'
-    local own_words='--help --version --install --uninstall --explain --progress'
+    local own_words='--help --version --install --uninstall --explain --progress --whole'
     local IFS=$' \t\n' current=${COMP_WORDS[COMP_CWORD]} previous=${COMP_WORDS[COMP_CWORD - 1]}
     local first=1 options='' option='' others left=() front=''
     COMPREPLY=()
 
     if ((COMP_CWORD > 1)); then
         case ${COMP_WORDS[1]} in
-            --explain | --progress) first=2 own_words='' ;;
+            --explain | --progress | --whole) first=2 own_words='' ;;
             --install | --uninstall)
                 ((COMP_CWORD > 2)) || compopt -o dirnames
                 return

@@ -2,13 +2,13 @@
 # Completion of riegeli's words for zsh: a function for a folder of `fpath`, under the name _riegeli.
 
 local commands='write show verify seek repair sample join ranges append collect'
-local own_words='--help --version --install --uninstall --explain --progress'
+local own_words='--help --version --install --uninstall --explain --progress --whole'
 local options='' added=1
 local -a given left
 
 if (( CURRENT > 2 )); then
     case $words[2] in
-        --explain | --progress)
+        --explain | --progress | --whole)
             shift words
             (( CURRENT-- ))
             own_words=''

@@ -1,12 +1,14 @@
 -- Values counted by hand, which the checker computes from the definitions.
 use Rattle.std.proofs.Common.{◌≡◌, ℕ, ◌+◌, Some, None, List, [], ◌∷◌, map, set, refl, arith}
 use Rattle.std.specs.List.{slice_get}
-use Rattle.chunk_header.specs.declared.Chunk.{Chunk}
-use Rattle.chunk_workers.specs.declared.numbered.Numbered.{Numbered}
+use Rattle.chunk_workers.specs.declared.places.RunPlace.{RunPlace}
+use Rattle.chunk_workers.specs.Coded.{CodedValue}
+use Rattle.chunk_workers.specs.InOrder.{in_order}
+use Rattle.chunk_workers.specs.RunPlaces.{places_of}
+use Rattle.chunk_workers.specs.Runs.{RunsValue, run_count}
 use Rattle.number_shares.specs.Once.{times}
 use Rattle.number_shares.specs.Machine.{AreTakes, Hand, IsTake, Machine, start_of, taken}
 use Rattle.chunk_workers.specs.Seats.{answer_for, one, ones}
-use Rattle.chunk_workers.specs.Windows.{by_number, chunk_of_number}
 
 -- a seat's lists, and a state
 abbrev has : List ℕ → List ℕ → Hand
@@ -48,15 +50,22 @@ first_without = refl
 twice : times 7 (7 ∷ 1 ∷ 7 ∷ []) ≡ 2
 twice = refl
 
--- chunks in another order, by rising number, and the one of a number
-abbrev numbered : ℕ → Chunk → Numbered
-numbered number chunk = record { number = number; chunk = chunk }
+-- where three groups are drawn in runs of two, the second run by the first worker: by rising number, and where they lie
+abbrev drew : List ℕ → List CodedValue → RunsValue
+drew numbers chunks = record { numbers = numbers; chunks = chunks }
 
-by_rising_number : (a b c : Chunk) → by_number 3 (numbered 2 c ∷ numbered 0 a ∷ numbered 1 b ∷ []) ≡ a ∷ b ∷ c ∷ []
+by_rising_number : (a b c : CodedValue) → in_order 2 3 (drew (1 ∷ []) (c ∷ []) ∷ drew (0 ∷ []) (a ∷ b ∷ []) ∷ []) ≡ a ∷ b ∷ c ∷ []
 by_rising_number a b c = refl
 
-at_its_number : (a b : Chunk) → chunk_of_number (numbered 1 b ∷ numbered 0 a ∷ []) 0 ≡ Some a
-at_its_number a b = refl
+abbrev place : ℕ → ℕ → RunPlace
+place worker first = record { worker = worker; first = first }
 
-none_at_another : (a b : Chunk) → chunk_of_number (numbered 1 b ∷ numbered 0 a ∷ []) 2 ≡ None
-none_at_another a b = refl
+places_of_two : (chunks : List CodedValue) → places_of 2 5 (drew (2 ∷ 0 ∷ []) chunks ∷ drew (1 ∷ []) chunks ∷ []) ≡ (2, place 0 0) ∷ (0, place 0 1) ∷ (1, place 1 0) ∷ []
+places_of_two chunks = refl
+
+-- four groups are two runs of two, and five three
+two_runs : run_count 2 4 ≡ 2
+two_runs = refl
+
+three_runs : run_count 2 5 ≡ 3
+three_runs = refl

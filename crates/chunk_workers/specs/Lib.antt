@@ -1,2 +1,5 @@
+pub mod Coded
+pub mod InOrder
+pub mod RunPlaces
+pub mod Runs
 pub mod Seats
-pub mod Windows

@@ -1,15 +1,14 @@
 //! Laws of the definitions that contracts cite. Nothing runs here.
 
-ghost use Rattle.std.specs.Prelude.{◌≡◌, ◌≢◌, ℕ, ◌≤◌, Some, List, [], All, length, map, slice_get};
-ghost use Rattle.std.specs.List.{AllByRecursion, flat_map};
+ghost use Rattle.std.specs.Prelude.{◌≡◌, ◌≢◌, ℕ, ◌≤◌, List, [], All, length};
+ghost use Rattle.std.specs.List.{AllByRecursion, flat_map, range_with_len};
 ghost use Rattle.number_shares.specs.Machine.{AreTakes, Machine, start_of};
 ghost use Rattle.number_shares.specs.Once.{HasEachBelow};
 ghost use Rattle.chunk_header.specs.Chunks.{ChunkValue};
-ghost use Rattle.chunk_header.specs.Views.{HasRightHash, value_of_chunk};
-ghost use Rattle.chunk_header.specs.declared.Chunk.{Chunk};
-ghost use Rattle.chunk_workers.specs.declared.numbered.Numbered.{Numbered};
-ghost use Rattle.chunk_workers.specs.Seats.{SeatValue, drawn_by, numbers_at, ones};
-ghost use Rattle.chunk_workers.specs.Windows.{IsChunkOfGroup, IsWindow, by_number, chunk_of_number, numbers_of};
+ghost use Rattle.chunk_workers.specs.Coded.{AreCoded};
+ghost use Rattle.chunk_workers.specs.InOrder.{in_order};
+ghost use Rattle.chunk_workers.specs.Runs.{RunsValue, groups_of_runs, run_count, run_of};
+ghost use Rattle.chunk_workers.specs.Seats.{numbers_at, ones};
 
 /// After a run of draws in which each seat has ended, and there is one, the lists `mine` together have each number below n
 /// once, and no other. Own.
@@ -19,20 +18,17 @@ pub fn runs_draw_each_once()
         → HasEachBelow n (flat_map (λ hand. numbers_at hand.mine) state.hands) }
 {}
 
-/// Where each number below that of the groups was drawn once, and no other, the chunks of the groups of these numbers are
-/// a window. In it each group has one chunk, under its own number; and by rising number they are the chunks of the groups,
-/// in their order, each with its data's right hash. Own.
-pub fn windows_have_the_chunks_of_their_groups()
-    ensures drawn { (chunk_of : List (List ℕ) → ChunkValue) (groups : List (List (List ℕ))) (window : List Numbered) (seats : List SeatValue)
-        → numbers_of window ≡ drawn_by seats → HasEachBelow (length groups) (drawn_by seats)
-        → All (IsChunkOfGroup chunk_of groups) window → IsWindow chunk_of groups window }
-    ensures own { (chunk_of : List (List ℕ) → ChunkValue) (groups : List (List (List ℕ))) (window : List Numbered)
-        → IsWindow chunk_of groups window → All (λ c. chunk_of_number window c.number ≡ Some c.chunk) window }
-    ensures group { (chunk_of : List (List ℕ) → ChunkValue) (groups : List (List (List ℕ))) (window : List Numbered)
-        → IsWindow chunk_of groups window → (p : ℕ) (group : List (List ℕ)) → slice_get groups p ≡ Some group
-        → (chunk : Chunk) × (chunk_of_number window p ≡ Some chunk) × (value_of_chunk chunk ≡ chunk_of group) × HasRightHash chunk }
-    ensures in_order { (chunk_of : List (List ℕ) → ChunkValue) (groups : List (List (List ℕ))) (window : List Numbered)
-        → IsWindow chunk_of groups window → map value_of_chunk (by_number (length groups) window) ≡ map chunk_of groups }
-    ensures right { (chunk_of : List (List ℕ) → ChunkValue) (groups : List (List (List ℕ))) (window : List Numbered)
-        → IsWindow chunk_of groups window → All HasRightHash (by_number (length groups) window) }
+/// The runs, one after another, are all groups in their order. Own.
+pub fn runs_are_the_groups()
+    ensures { (step : ℕ) (groups : List (List (List ℕ))) → 1 ≤ step
+        → flat_map (run_of step groups) (range_with_len 0 (run_count step (length groups))) ≡ groups }
+{}
+
+/// Where workers drew each number of a run once, and no other, and each has the coded chunks of the groups of the runs that it
+/// drew, in order of drawing, then by rising number they are those of all groups, in their order. Own.
+pub fn runs_are_in_order()
+    ensures { (chunk_of : List (List ℕ) → ChunkValue) (step : ℕ) (groups : List (List (List ℕ))) (workers : List RunsValue) → 1 ≤ step
+        → HasEachBelow (run_count step (length groups)) (flat_map (λ r. r.numbers) workers)
+        → All (λ r. AreCoded chunk_of (groups_of_runs step groups r.numbers) r.chunks) workers
+        → AreCoded chunk_of groups (in_order step (length groups) workers) }
 {}

@@ -11,7 +11,7 @@ use crate::status::Status;
 use itoa::Buffer;
 use record_io::{Cut, Failed, PutBuffer, Sink, put_all};
 
-/// The most bytes of a line, of which a quarter holds each of its parts.
+/// The most bytes of a line.
 pub const LINE: usize = 128;
 
 /// Ends the work with a text and its status, or with that of a fault of notes.

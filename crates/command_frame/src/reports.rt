@@ -6,7 +6,7 @@ ghost use Rattle.command_frame.specs.FileAnswers.{count_line, report};
 use itoa::Buffer;
 use record_io::{Failed, PutBuffer, Sink, Totals};
 
-/// How many bytes of lines are held, of which a quarter holds each of their parts.
+/// How many bytes of lines are held.
 const HELD: usize = 256;
 
 /// Puts the report of totals.

@@ -6,7 +6,7 @@ use chunk_reader::Why;
 use itoa::Buffer;
 use record_io::{Failed, PutBuffer, Sink};
 
-/// The most bytes of a line, of which a quarter holds each of its parts.
+/// The most bytes of a line.
 const LINE: usize = 128;
 
 /// Bytes of a file that are passed over, and why. Own.

@@ -3,8 +3,9 @@ ghost use Rattle.std.specs.Prelude.{◌^◌, ◌≤◌};
 ghost use Rattle.record_writer.specs.OptionLimits.{AreInLimits};
 
 use record_group::Pad;
-use record_io::{Bytes, MemSink};
+use record_io::Bytes;
 use record_writer::{FeedEnd, RecordFeed, WriteOptions, write_records};
+use scripted_io::MemSink;
 use std::alloc::{AllocError, Global};
 use std::process::Abort;
 use std::thread::Threads;

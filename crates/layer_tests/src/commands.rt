@@ -3,8 +3,9 @@ use crate::byte_files::file_between;
 use crate::meeting_stores::{MeetingStore, StoreMeetings, meeting_stores};
 use crate::meetings::{FEED, Guest, Meeting, MeetingSink, SINK};
 use record_append::FileDevice;
-use record_io::{Failed, Sink, Source, Store, SureInput};
+use record_io::{Failed, Sink, Source, Store};
 use riegeli_tool::{Status, run};
+use scripted_io::SureInput;
 use std::alloc::{AllocError, Global};
 use std::test::Fail;
 use std::thread::Threads;
@@ -81,12 +82,12 @@ impl<'a> Source for MeetingInput<'a> {
     }
 }
 
-/// Lines of which six fill a window of several workers, and up to 64 one that is taken while another is coded or put: so many
-/// that the second window doesn't take them all, and a third one does.
+/// Lines of which seven fill the first window, and up to 17 one that is taken while another is encoded or put: so many that the
+/// second window doesn't take them all, and a third one does.
 fn lines(alloc: Global) -> Result<Vec<u8>, AllocError> {
     let line = vec![in alloc; b'a'; 262_000]?;
     let mut lines = Vec::new(alloc);
-    for _ in 0..74 {
+    for _ in 0..28 {
         lines.extend_from_slice(&line)?;
         lines.push(b'\n')?;
     }

@@ -1,37 +1,67 @@
 //! Calls that are saved: of a sink by a buffer before it, and of a store and a device by reading ahead.
 use real_files::ReadAheadBy;
-use record_append::MemDevice;
-use record_io::{Failed, MemSink, MemStore, PutBuffer, Sink, Store, get_exact};
+use record_io::{Failed, PutBuffer, Sink, Store, get_exact};
+use scripted_io::{MemDevice, MemSink, MemStore};
 use std::alloc::{AllocError, Global};
 use std::process::Abort;
 use std::test::Fail;
 
-/// How many bytes the sink has taken after each piece, and after what was held went out.
-fn taken_after_each<const N: usize>(
-    mut buffer: PutBuffer<N>,
-    sink: &mut MemSink,
-    pieces: [&str; 5],
-) -> Result<[usize; 6], Failed> {
-    let mut taken = [0; 6];
-    for (i, piece) in pieces.iter().enumerate() {
-        buffer.put(sink, piece.as_bytes())?;
-        taken[i] = sink.taken().len();
-    }
-    buffer.flush(sink)?;
-    taken[5] = sink.taken().len();
-    Ok(taken)
+/// Takes bytes, and notes how many each put gives.
+#[derive(Drop)]
+struct NotingSink {
+    sink: MemSink,
+    sizes: [usize; 6],
+    puts: usize,
 }
 
+impl Sink for NotingSink {
+    ghost use Rattle.std.specs.Prelude.{Some};
+
+    ghost taken = { λ s. Some s.sink.taken };
+
+    ghost faults = { λ s. s.sink.script.faults };
+
+    fn put(&mut self, piece: &[u8]) -> Result<usize, Failed> {
+        if let Some(size) = self.sizes.get_mut(self.puts) {
+            *size = piece.len();
+        }
+        self.puts = self.puts.saturating_add(1);
+        self.sink.put(piece)
+    }
+}
+
+const BYTES: [u8; 40] = [0; 40];
+
+/// Puts pieces of so many bytes through a buffer of 8 that begins at an offset.
+fn put_pieces(offset: u64, pieces: [usize; 5], sink: &mut NotingSink) -> Result<(), Failed> {
+    let mut buffer = PutBuffer::<8>::at(offset);
+    for size in pieces {
+        buffer.put(sink, &BYTES[..size.min(BYTES.len())])?;
+    }
+    buffer.flush(sink)
+}
+
+/// The offset of the first byte, how many bytes the pieces have, and how many each put has: all but the first and the last
+/// begin and end at a multiple of 8.
+const GATHERED: [(u64, [usize; 5], [usize; 6]); 5] = [
+    (0, [2, 2, 2, 2, 1], [8, 1, 0, 0, 0, 0]),
+    (0, [1, 3, 1, 0, 10], [8, 7, 0, 0, 0, 0]),
+    (0, [24, 3, 5, 8, 0], [24, 8, 8, 0, 0, 0]),
+    (5, [1, 1, 1, 1, 1], [3, 2, 0, 0, 0, 0]),
+    (13, [30, 0, 4, 0, 1], [3, 24, 8, 0, 0, 0]),
+];
+
 #[test]
-fn small_pieces_are_gathered_and_large_ones_go_through(rt: HostRuntime) -> Result<(), Fail> {
-    for (pieces, taken) in [
-        (["ab", "cd", "ef", "gh", "i"], [0, 0, 0, 0, 8, 9]),
-        (["a", "bcd", "e", "", "fghijklmno"], [0, 4, 4, 4, 15, 15]),
-    ] {
+fn pieces_are_put_whole_at_multiples(rt: HostRuntime) -> Result<(), Fail> {
+    for (offset, pieces, sizes) in GATHERED {
         let none = Vec::new(rt.alloc());
-        let mut sink = MemSink::new(rt.alloc(), 15, Vec::new(rt.alloc()), none)?;
-        let buffer = PutBuffer::<8>::new();
-        assert_eq!(rt; taken_after_each(buffer, &mut sink, pieces), Ok(taken));
+        let mut sink = NotingSink {
+            sink: MemSink::new(rt.alloc(), 40, Vec::new(rt.alloc()), none)?,
+            sizes: [0; 6],
+            puts: 0,
+        };
+        assert_eq!(rt; put_pieces(offset, pieces, &mut sink), Ok(()), "{offset}");
+        assert_eq!(rt; sink.sizes, sizes, "{offset}");
     }
     Ok(())
 }

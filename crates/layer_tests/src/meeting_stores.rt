@@ -1,9 +1,10 @@
 //! Stores of one file that meet while they are read.
 ghost use Rattle.std.specs.Prelude.{◌≡◌, All, Some, IfOk, length, vec_len};
-ghost use Rattle.record_io.specs.Memory.{told_if};
+ghost use Rattle.scripted_io.specs.Memory.{told_if};
 
 use crate::meetings::{Guest, Meeting};
-use record_io::{Failed, Store, SureStore};
+use record_io::{Failed, Store};
+use scripted_io::SureStore;
 use std::alloc::{AllocError, Global};
 
 /// Where stores meet: when they are read first, and when their last chunks are.
@@ -39,7 +40,7 @@ pub(crate) struct MeetingStore<'a> {
 }
 
 impl<'a> Store for MeetingStore<'a> {
-    ghost use Rattle.record_io.specs.Memory.{told_if-sized};
+    ghost use Rattle.scripted_io.specs.Memory.{told_if-sized};
 
     ghost bytes = { λ s. Some s.store.bytes };
 

@@ -1,9 +1,9 @@
 //! Meetings of threads, and who comes to them.
 use crate::byte_files::sink;
-use chunk_header::Chunk;
-use chunk_workers::Coder;
-use record_io::{Failed, MemSink, Sink};
-use simple_chunk::{Records, encode};
+use chunk_workers::{CodedChunks, Coder};
+use record_io::{Failed, Sink};
+use scripted_io::MemSink;
+use simple_chunk::RecordsRef;
 use std::alloc::{AllocError, Global};
 use std::hint;
 use std::sync::atomic::{AtomicU64, Ordering};
@@ -92,14 +92,14 @@ impl<'a> Coder for MeetingCoder<'a> {
 
     ghost chunk_of = { λ _ records. simple_chunk records };
 
-    fn code(&self, alloc: Global, records: &Records) -> Result<Chunk, AllocError> {
-        let flag = flag_of(records.values().first().copied().unwrap_or(0));
+    fn code(&self, group: &RecordsRef<'_>, coded: &mut CodedChunks) -> Result<(), AllocError> {
+        let flag = flag_of(group.values().first().copied().unwrap_or(0));
         if self.coming & flag != 0 {
             self.meeting.meet(flag);
         }
-        let chunk = encode(alloc, records)?;
+        coded.push_simple(group)?;
         self.meeting.raise(flag);
-        Ok(chunk)
+        Ok(())
     }
 }
 

@@ -1,4 +1,4 @@
-//! Files whose groups are coded by workers, and put meanwhile.
+//! Files whose groups are encoded by workers, and put meanwhile.
 ghost use Rattle.std.specs.Prelude.{◌≡◌, ◌^◌, ◌≤◌, true, length};
 
 use crate::byte_files::{ByteFeed, file_between, options, sink};
@@ -53,7 +53,7 @@ fn write_last_of_eight<R: Threads + Abort + Sync>(
 }
 
 #[test]
-fn the_groups_of_a_window_are_coded_side_by_side(rt: HostRuntime) -> Result<(), Fail> {
+fn the_groups_of_a_window_are_encoded_side_by_side(rt: HostRuntime) -> Result<(), Fail> {
     let file = file_between(&rt, rt.alloc(), 1, 0, 8)?;
     for last in 0..8 {
         write_last_of_eight(&rt, rt.alloc(), 2, last, file.taken())?;
@@ -62,8 +62,38 @@ fn the_groups_of_a_window_are_coded_side_by_side(rt: HostRuntime) -> Result<(), 
     Ok(())
 }
 
+/// Writes the file of as many records as there are workers, whose groups, with these flags, all wait for each other.
+fn write_at_once<R: Threads + Abort + Sync>(
+    rt: &R,
+    alloc: Global,
+    workers: u8,
+    coming: u64,
+) -> Result<(), AllocError>
+    requires { (1 ≤ workers) × (workers ≤ 16) }
+{
+    let coder = MeetingCoder {
+        meeting: &Meeting::of(coming),
+        coming,
+    };
+    let mut feed = ByteFeed {
+        next: 0,
+        end: workers,
+    };
+    let mut made = sink(alloc)?;
+    write_by(rt, alloc, workers as u32, &coder, &mut feed, &mut made);
+    Ok(())
+}
+
 #[test]
-fn a_window_is_put_while_the_next_is_coded(rt: HostRuntime) -> Result<(), Fail> {
+fn as_many_threads_encode_at_once_as_there_are_workers(rt: HostRuntime) -> Result<(), Fail> {
+    write_at_once(&rt, rt.alloc(), 2, 0b11)?;
+    write_at_once(&rt, rt.alloc(), 4, 0b1111)?;
+    write_at_once(&rt, rt.alloc(), 16, 0xffff)?;
+    Ok(())
+}
+
+#[test]
+fn a_window_is_put_while_the_next_is_encoded(rt: HostRuntime) -> Result<(), Fail> {
     let coder = MeetingCoder {
         meeting: &Meeting::of(flag_of(8) | SINK),
         coming: flag_of(8),
@@ -109,7 +139,7 @@ impl<'a> RecordFeed for MeetingFeed<'a> {
 }
 
 #[test]
-fn a_window_is_coded_while_the_next_is_taken(rt: HostRuntime) -> Result<(), Fail> {
+fn a_window_is_encoded_while_the_next_is_taken(rt: HostRuntime) -> Result<(), Fail> {
     let coder = MeetingCoder {
         meeting: &Meeting::of(flag_of(0) | FEED),
         coming: flag_of(0),
@@ -161,8 +191,8 @@ fn write_three_windows<R: Threads + Abort + Sync>(
 }
 
 #[test]
-fn three_windows_are_put_coded_and_taken(rt: HostRuntime) -> Result<(), Fail> {
-    write_three_windows(&rt, rt.alloc(), 2, 8, 0b11 << 8, 13)?;
-    write_three_windows(&rt, rt.alloc(), 4, 16, 0b1111 << 16, 25)?;
+fn three_windows_are_put_encoded_and_taken(rt: HostRuntime) -> Result<(), Fail> {
+    write_three_windows(&rt, rt.alloc(), 2, 8, 0b11 << 8, 20)?;
+    write_three_windows(&rt, rt.alloc(), 4, 16, 0b1111 << 16, 28)?;
     Ok(())
 }

@@ -1,6 +1,6 @@
 //! Files that are read side by side: parts of one, and whole ones.
 ghost use Rattle.std.specs.Prelude.{◌≡◌, ◌+◌, ◌^◌, ◌<◌, ◌≤◌, All, Some, IfOk, length};
-ghost use Rattle.record_io.specs.Memory.{told_if};
+ghost use Rattle.scripted_io.specs.Memory.{told_if};
 ghost use Rattle.record_ranges.specs.Ranges.{RiseUpTo};
 
 use crate::byte_files::file_between;

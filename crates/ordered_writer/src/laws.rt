@@ -80,34 +80,34 @@ pub fn files_are_joined_at_blocks()
 /// for those behind it is as before. There is as much room as before, and no more chunks are held than there is room for.
 /// Own.
 pub fn numbers_keep_their_chunks()
-    ensures held { (r : Reordering) (number : ℕ) (c : Chunk) → CanHold r number → held_at (with_held r number c) number ≡ Some c }
-    ensures others { (r : Reordering) (number p : ℕ) (c : Chunk) → CanHold r number → r.wanted ≤ p → p ≢ number
+    ensures held { (r : Reordering Chunk) (number : ℕ) (c : Chunk) → CanHold r number → held_at (with_held r number c) number ≡ Some c }
+    ensures others { (r : Reordering Chunk) (number p : ℕ) (c : Chunk) → CanHold r number → r.wanted ≤ p → p ≢ number
         → held_at (with_held r number c) p ≡ held_at r p }
-    ensures behind { (r : Reordering) (p : ℕ) → r.wanted < p → held_at (moved_on r) p ≡ held_at r p }
-    ensures held_room { (r : Reordering) (number : ℕ) (c : Chunk) → room_of (with_held r number c) ≡ room_of r }
-    ensures moved_room { (r : Reordering) → 0 < room_of r → room_of (moved_on r) ≡ room_of r }
-    ensures few { (r : Reordering) → count_held r ≤ room_of r }
+    ensures behind { (r : Reordering Chunk) (p : ℕ) → r.wanted < p → held_at (moved_on r) p ≡ held_at r p }
+    ensures held_room { (r : Reordering Chunk) (number : ℕ) (c : Chunk) → room_of (with_held r number c) ≡ room_of r }
+    ensures moved_room { (r : Reordering Chunk) → 0 < room_of r → room_of (moved_on r) ≡ room_of r }
+    ensures few { (r : Reordering Chunk) → count_held r ≤ room_of r }
 {}
 
 /// Where nothing is held, chunks can be held of which each of so many numbers from the next one on, for which there is
 /// room, has one, in whatever order they come. Then so many come next, by rising numbers, each the chunk of its number. Own.
 pub fn chunks_come_by_number()
-    ensures can_hold { (r : Reordering) (count : ℕ) (chunks : List (ℕ × Chunk))
+    ensures can_hold { (r : Reordering Chunk) (count : ℕ) (chunks : List (ℕ × Chunk))
         → count_held r ≡ 0 → count ≤ room_of r → HasEachFrom r.wanted count (map (λ c. c.0) chunks)
         → CanHoldEach r chunks }
-    ensures wanted { (r : Reordering) (chunks : List (ℕ × Chunk)) → (with_each r chunks).wanted ≡ r.wanted }
-    ensures room { (r : Reordering) (chunks : List (ℕ × Chunk)) → room_of (with_each r chunks) ≡ room_of r }
-    ensures count { (r : Reordering) (count : ℕ) (chunks : List (ℕ × Chunk))
+    ensures wanted { (r : Reordering Chunk) (chunks : List (ℕ × Chunk)) → (with_each r chunks).wanted ≡ r.wanted }
+    ensures room { (r : Reordering Chunk) (chunks : List (ℕ × Chunk)) → room_of (with_each r chunks) ≡ room_of r }
+    ensures count { (r : Reordering Chunk) (count : ℕ) (chunks : List (ℕ × Chunk))
         → count_held r ≡ 0 → count ≤ room_of r → HasEachFrom r.wanted count (map (λ c. c.0) chunks)
         → length (coming (with_each r chunks)) ≡ count }
-    ensures each { (r : Reordering) (count : ℕ) (chunks : List (ℕ × Chunk))
+    ensures each { (r : Reordering Chunk) (count : ℕ) (chunks : List (ℕ × Chunk))
         → count_held r ≡ 0 → count ≤ room_of r → HasEachFrom r.wanted count (map (λ c. c.0) chunks)
         → AllByRecursion (Contains chunks) (enumerate_from r.wanted (coming (with_each r chunks))) }
-    ensures values { (r : Reordering) (count : ℕ) (chunks : List (ℕ × Chunk)) (value : ℕ → ChunkValue)
+    ensures values { (r : Reordering Chunk) (count : ℕ) (chunks : List (ℕ × Chunk)) (value : ℕ → ChunkValue)
         → count_held r ≡ 0 → count ≤ room_of r → HasEachFrom r.wanted count (map (λ c. c.0) chunks)
         → AllByRecursion (λ c. value_of_chunk c.1 ≡ value c.0) chunks
         → map value_of_chunk (coming (with_each r chunks)) ≡ map value (range_with_len r.wanted count) }
-    ensures right { (r : Reordering) (count : ℕ) (chunks : List (ℕ × Chunk))
+    ensures right { (r : Reordering Chunk) (count : ℕ) (chunks : List (ℕ × Chunk))
         → count_held r ≡ 0 → count ≤ room_of r → HasEachFrom r.wanted count (map (λ c. c.0) chunks)
         → AllByRecursion (λ c. HasRightHash c.1) chunks
         → AllByRecursion HasRightHash (coming (with_each r chunks)) }

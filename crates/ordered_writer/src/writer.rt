@@ -11,7 +11,7 @@ ghost use Rattle.ordered_writer.specs.Writers.{GoesOnTo, IsBoundaryWithin, MayRe
 
 use crate::laying::{ZEROS, lay_chunk};
 use block_layout::chunk_end;
-use chunk_header::{Chunk, Header, Kind};
+use chunk_header::{Chunk, HEADER_SIZE, Header, Kind};
 use highway_hash::{Hasher, RIEGELI};
 use meta_chunk::{SIGNATURE, padding_size};
 use record_io::{Failed, PutBuffer, Sink};
@@ -194,8 +194,47 @@ impl OrderedWriter {
         ensures sink { PutsWithin M.taken M.lent M.faults result N buffer.old buffer.new
             (laid_with self.old.position header.now (front.now ++ rest.now)) sink.old sink.new }
     {
+        self.put_encoded_into(
+            buffer,
+            sink,
+            &header.to_bytes(),
+            header.num_records,
+            front,
+            rest,
+        )
+    }
+
+    /// As `put_parts_into`, of a chunk whose header is encoded already, and says that the chunk has so many records and data of
+    /// the size of the two parts.
+    ///
+    /// # Errors
+    ///
+    /// `Failed` only where the sink failed. Nothing is held then.
+    pub fn put_encoded_into<const N: usize, M: Sink>(
+        &mut self,
+        buffer: &mut PutBuffer<N>,
+        sink: &mut M,
+        header: &[u8; HEADER_SIZE],
+        num_records: u64,
+        front: &[u8],
+        rest: &[u8],
+    ) -> Result<u64, Failed>
+        requires may_reach { MayReach self.old
+            (chunk_end_of self.old.position (chunk_header_size + (length front.now + length rest.now))
+            num_records) (2 ^ 62) }
+        requires few { num_records < 2 ^ 56 }
+        ensures begin { IfOk result (λ begin. begin ≡ self.old.position) }
+        ensures goes_on { GoesOnTo result
+            (chunk_end_of self.old.position (chunk_header_size + (length front.now + length rest.now))
+            num_records) self.old self.new }
+        ensures sink { PutsWithin M.taken M.lent M.faults result N buffer.old buffer.new
+            (laid_bytes self.old.position
+            (chunk_end_of self.old.position (chunk_header_size + (length front.now + length rest.now)) num_records)
+            (header.now ++ (front.now ++ rest.now))) sink.old sink.new }
+    {
         let begin = self.position;
-        self.lay(buffer, sink, header, front, rest)?;
+        let data_size = front.len() as u64 + rest.len() as u64;
+        self.lay(buffer, sink, header, data_size, num_records, front, rest)?;
         Ok(begin)
     }
 
@@ -219,42 +258,36 @@ impl OrderedWriter {
         let Some(size) = padding_size(self.position) else {
             return Ok(());
         };
-        self.lay(buffer, sink, &padding_header(size), &[], &[])
+        self.lay(buffer, sink, &padding_header(size), size, 0, &[], &[])
     }
 
-    // Lays a chunk of this header and of data that begins with these two parts and goes on with zero bytes.
+    // Lays a chunk of this header and so many records, whose data has this size, begins with these two parts and goes on
+    // with zero bytes.
     fn lay<const N: usize, M: Sink>(
         &mut self,
         buffer: &mut PutBuffer<N>,
         sink: &mut M,
-        header: &Header,
+        header: &[u8; HEADER_SIZE],
+        data_size: u64,
+        num_records: u64,
         front: &[u8],
         rest: &[u8],
     ) -> Result<(), Failed>
         requires may_reach { MayReach self.old
-            (chunk_end_of self.old.position (chunk_header_size + header.now.data_size)
-            header.now.num_records) (2 ^ 62) }
-        requires is_front { length (front.now ++ rest.now) ≤ header.now.data_size }
+            (chunk_end_of self.old.position (chunk_header_size + data_size) num_records) (2 ^ 62) }
+        requires few { num_records < 2 ^ 56 }
+        requires is_front { length (front.now ++ rest.now) ≤ data_size }
         ensures goes_on { GoesOnTo result
-            (chunk_end_of self.old.position (chunk_header_size + header.now.data_size)
-            header.now.num_records) self.old self.new }
+            (chunk_end_of self.old.position (chunk_header_size + data_size) num_records) self.old self.new }
         ensures sink { PutsWithin M.taken M.lent M.faults result N buffer.old buffer.new
-            (laid_bytes self.old.position (chunk_end_of self.old.position (chunk_header_size + header.now.data_size) header.now.num_records)
-            (bytes_of_header header.now ++ (front.now ++ rest.now))) sink.old sink.new }
+            (laid_bytes self.old.position (chunk_end_of self.old.position (chunk_header_size + data_size) num_records)
+            (header.now ++ (front.now ++ rest.now))) sink.old sink.new }
     {
-        let Some(end) = chunk_end(self.position, header.data_size, header.num_records) else {
+        let Some(end) = chunk_end(self.position, data_size, num_records) else {
             unreachable!();
         };
         self.spent = true;
-        lay_chunk(
-            buffer,
-            sink,
-            self.position,
-            end,
-            &header.to_bytes(),
-            front,
-            rest,
-        )?;
+        lay_chunk(buffer, sink, self.position, end, header, front, rest)?;
         self.position = end;
         self.spent = false;
         Ok(())
@@ -280,19 +313,18 @@ pub fn padded(at: u64) -> u64
 }
 
 // The header of a padding chunk of so many zero bytes.
-fn padding_header(size: u64) -> Header
+fn padding_header(size: u64) -> [u8; HEADER_SIZE]
     requires { size < 2 ^ 64 }
-    ensures bytes { bytes_of_header result ≡ header_bytes (padding size) }
-    ensures size { result.data_size ≡ size }
-    ensures no_records { result.num_records ≡ 0 }
+    ensures { result ≡ header_bytes (padding size) }
 {
-    Header {
+    let header = Header {
         data_size: size,
         data_hash: hash_of_zeros(size),
         kind: Kind::Padding.byte(),
         num_records: 0,
         decoded_size: 0,
-    }
+    };
+    header.to_bytes()
 }
 
 // The hash of so many zero bytes.

@@ -12,4 +12,4 @@ mod sized_sink;
 pub use appends::{AppendEnd, Appended, append};
 pub use as_sink::AsSink;
 pub use as_store::AsStore;
-pub use record_io::{Device, FileDevice, MemDevice};
+pub use record_io::{Device, FileDevice};

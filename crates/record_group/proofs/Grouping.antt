@@ -60,7 +60,7 @@ stays_open size every group record_bytes stays =
     ]
 
 -- a group that closes before a record is not empty
-closed_some : (size : ℕ) (every : Option ℕ) (group : List (List ℕ)) (record_bytes : List ℕ) → closes_before size every group record_bytes ≡ true
+pub closed_some : (size : ℕ) (every : Option ℕ) (group : List (List ℕ)) (record_bytes : List ℕ) → closes_before size every group record_bytes ≡ true
     → ¬ (group ≡ [])
 closed_some size every group record_bytes closed none =
     let parts = and_parts (not (eqb (length group) 0)) (ltb size (cost_of group + cost record_bytes) || is_full every (length group)) closed in

@@ -10,6 +10,11 @@ pub record Grouping : Type 0 where
   pub every : Option ℕ
   pub group : List (List ℕ)
 
+-- the open group with its limits, and the groups that closed before it
+pub record BufferValue : Type 0 where
+  pub grouping : Grouping
+  pub closed : List (List (List ℕ))
+
 -- what each group keeps: it has a record, no more of them than are wanted in each, and costs at most the size,
 -- unless it is one record alone
 pub record KeepsLimits (size : ℕ) (every : Option ℕ) (group : List (List ℕ)) : Type 0 where

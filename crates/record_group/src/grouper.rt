@@ -3,8 +3,9 @@ ghost use Rattle.std.specs.Option.{option_to_list};
 ghost use Rattle.record_group.specs.Groups.{closes_before, groups};
 ghost use Rattle.record_group.specs.Groupings.{IsGivenGroup, IsPush, MayLimit, groups_from, new_grouping};
 
+use crate::closing::closes;
 use record_values::Bytes;
-use simple_chunk::{RECORD_COST, Records};
+use simple_chunk::Records;
 use std::alloc::{AllocError, Global};
 use std::marker::Model;
 use std::mem;
@@ -173,8 +174,12 @@ impl Grouper {
         requires { length rec.now ≤ 2 ^ 24 }
         ensures { result ≡ closes_before self.now.size self.now.every self.now.group rec.now }
     {
-        let cost = self.group.cost() + rec.len() as u64 + RECORD_COST;
-        let count = self.group.len() as u64;
-        !self.group.is_empty() && (cost > self.size || self.every == Some(count))
+        closes(
+            self.group.cost(),
+            self.group.len(),
+            self.size,
+            self.every,
+            rec.len(),
+        )
     }
 }

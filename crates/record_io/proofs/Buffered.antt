@@ -33,6 +33,25 @@ TakesAndHolds-append a b c before between after x y first then = record {
   taken = Takes-append a b c first.passed then.passed first.taken then.taken;
 }
 
+-- what is held and a front of a piece go out, and then the rest goes out or is held
+pub TakesAndHolds-rest : (a b c : Option (List ℕ)) (held front rest piece now : List ℕ) → piece ≡ front ++ rest
+    → Takes a b (held ++ front) → TakesAndHolds b c rest now → TakesAndHolds a c (held ++ piece) now
+TakesAndHolds-rest a b c held front rest piece now is first then = record {
+  passed = (held ++ front) ++ then.passed;
+  parts = ap (λ (xs : List ℕ). held ++ xs) is ∙ sym (append_assoc held front rest)
+      ∙ ap (λ (xs : List ℕ). (held ++ front) ++ xs) then.parts
+      ∙ sym (append_assoc (held ++ front) then.passed now);
+  taken = Takes-append a b c (held ++ front) then.passed first then.taken;
+}
+
+-- what is held and a front of a piece go out, and then not all of the rest
+pub TakesShort-rest : (a b c : Option (List ℕ)) (held front rest piece : List ℕ) → piece ≡ front ++ rest
+    → Takes a b (held ++ front) → TakesShort b c rest → TakesShort a c (held ++ piece)
+TakesShort-rest a b c held front rest piece is first then =
+    subst (λ (xs : List ℕ). TakesShort a c xs)
+    (append_assoc held front rest ∙ ap (λ (xs : List ℕ). held ++ xs) (sym is))
+    (TakesShort-append a b c (held ++ front) rest first then)
+
 -- bytes x behind those that are held, and then not all of what is held and y
 pub TakesShort-behind : (a b c : Option (List ℕ)) (before between x y : List ℕ)
     → TakesAndHolds a b (before ++ x) between → TakesShort b c (between ++ y) → TakesShort a c (before ++ (x ++ y))

@@ -1,4 +1,3 @@
-pub mod Memory
 pub mod Pieces
 pub mod Calls
 pub mod Buffered

@@ -7,7 +7,6 @@ mod file_sink;
 mod named_file;
 mod outside;
 mod put_buffer;
-mod stand_ins;
 pub mod std_calls;
 mod streams;
 
@@ -17,5 +16,4 @@ pub use named_file::{FileDevice, FileStore, NamedFile, Opening, ReadAppend, Read
 pub use outside::{Device, Failed, Sink, Source, Store, counted, fault, get_exact, put_all};
 pub use put_buffer::PutBuffer;
 pub use record_values::{Bytes, Totals};
-pub use stand_ins::{MemDevice, MemInput, MemSink, MemStore, Script, SureInput, SureStore};
 pub use streams::{StdErr, StdInput, StdOut};

@@ -1,7 +1,9 @@
 -- The groups that were given of a feed's records, and those still to come.
-use Rattle.std.proofs.Common.{◌≡◌, ◌∙◌, ℕ, Option, Some, None, List, [], ◌++◌, sym, ap, subst, refl}
+use Rattle.std.proofs.Common.{◌≡◌, ◌≢◌, ◌∙◌, ℕ, Option, Some, None, List, [], ◌∷◌, ◌++◌, length, sym, ap, subst, refl}
+use Rattle.std.proofs.Math.Dec.{eqb}
 use Rattle.std.specs.Option.{IfSome, option_to_list}
-use Rattle.std.proofs.lemmas.List.{map-append}
+use Rattle.std.proofs.lemmas.Bool.{cond_both, eqb-true}
+use Rattle.std.proofs.lemmas.List.{map-append, nil_from_length}
 use Rattle.chunk_header.specs.Chunks.{ChunkValue}
 use Rattle.chunk_header.specs.SimpleChunks.{simple_chunk}
 use Rattle.record_group.specs.Groups.{groups}
@@ -30,6 +32,14 @@ AreGiven-push (Some all) b c old between new given record_bytes closed (rest, to
             (groups_from-push between new record_bytes closed later.records push);
       },
     )
+
+-- where no record follows, the open group is the last
+pub groups_from-last : (grouping : Grouping) → grouping.group ≢ [] → groups_from grouping [] ≡ grouping.group ∷ []
+groups_from-last grouping some =
+    let group = grouping.group in
+    cond_both (eqb (length group) 0) [] (group ∷ []) (λ (gs : List (List (List ℕ))). gs ≡ group ∷ [])
+    (λ empty. absurd (some (nil_from_length group (eqb-true (length group) 0 empty))))
+    (λ _. refl)
 
 -- where none is left and a stop follows, or none
 pub AreGiven-ended : (a b : Option Rest) (old new : Grouping) (given : List (List (List ℕ))) (stop : Option Stop)

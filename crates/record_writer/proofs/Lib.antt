@@ -4,9 +4,11 @@ pub mod Layings
 pub mod Reaches
 pub mod Given
 pub mod Windows
+pub mod Taking
 pub mod Counted
 pub mod Wholes
 pub mod Flushes
-pub mod CodedWindows
+pub mod EncodedWindows
+pub mod PutOut
 pub mod ListFeeds
 pub mod SignedFiles

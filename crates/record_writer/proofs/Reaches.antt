@@ -1,7 +1,9 @@
 -- How far the chunks of groups reach.
 use Rattle.std.proofs.Common.{◌≡◌, ◌≢◌, ◌∙◌, ℕ, ◌+◌, ◌*◌, ◌≤◌, Option, Some, None, List, [], ◌∷◌, ◌++◌, length, refl, ap, arith}
 use Rattle.std.specs.Option.{IfSome, option_to_list}
-use Rattle.std.proofs.lemmas.List.{map-append}
+use Rattle.std.proofs.Math.Dec.{eqb}
+use Rattle.std.proofs.lemmas.Bool.{cond_both, eqb-false}
+use Rattle.std.proofs.lemmas.List.{append-nil, map-append}
 use Rattle.std.proofs.lemmas.List.Sums.{sum_by-cons, sum_by_push}
 use Rattle.varint_wire.proofs.Spellings.{length-shortest}
 use Rattle.block_layout.specs.Layout.{end_of}
@@ -15,8 +17,9 @@ use Rattle.meta_chunk.specs.Files.{end_of_chunks}
 use Rattle.meta_chunk.proofs.Joins.{end_of_chunks-append, end_of_chunks_past}
 use Rattle.simple_chunk.specs.Costs.{cost, cost_of}
 use Rattle.simple_chunk.proofs.CostLemmas.{cost_of-is}
-use Rattle.record_group.specs.Groupings.{Grouping, IsPush}
+use Rattle.record_group.specs.Groupings.{Grouping, IsPush, groups_from}
 use Rattle.record_writer.specs.MadeFiles.{chunks_of_groups, reach_of}
+use Rattle.record_writer.specs.Windows.{with_record}
 
 -- bytes end near their begin: less than two block headers, and one more for each block's bytes, lie between
 end_of-near : (begin size : ℕ) → 1 ≤ size → end_of begin size ≤ begin + 2 * size + 48
@@ -132,3 +135,19 @@ reach_of-finished place old new group before after is same some none =
       reach_of-last next old group (reach_of next old 0) (omega arith) same some,
       ap cost_of none,
     )
+
+-- also where it closes only if it has a record
+pub reach_of-closed : (place : ℕ) (old new : Grouping) (before after : List (List (List ℕ)))
+    → after ≡ before ++ groups_from old [] → new.group ≡ []
+    → reach_of (end_of_chunks place (chunks_of_groups after)) new 0 ≤ reach_of (end_of_chunks place (chunks_of_groups before)) old 0
+reach_of-closed place old new before after is none =
+    cond_both (eqb (length old.group) 0) [] (old.group ∷ [])
+    (λ (gs : List (List (List ℕ))). after ≡ before ++ gs → reach_of (end_of_chunks place (chunks_of_groups after)) new 0
+    ≤ reach_of (end_of_chunks place (chunks_of_groups before)) old 0)
+    (λ empty same. omega (arith, ap (λ (gs : List (List (List ℕ))). end_of_chunks place (chunks_of_groups gs)) (same ∙ append-nil before), ap cost_of none))
+    (λ some same. reach_of-finished place old new old.group before after same refl (λ e. eqb-false (length old.group) 0 some (ap length e)) none)
+    is
+
+-- a group costs no less with one more record
+pub cost_of-open : (grouping : Grouping) (record_bytes : List ℕ) → cost_of grouping.group ≤ cost_of (with_record grouping record_bytes).group
+cost_of-open grouping record_bytes = omega (arith, sum_by_push cost grouping.group record_bytes)

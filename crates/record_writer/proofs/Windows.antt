@@ -1,9 +1,9 @@
 -- Groups that are taken of a feed, and then put together.
-use Rattle.std.proofs.Common.{◌≡◌, ◌∙◌, ℕ, ◌+◌, ◌<◌, ◌≤◌, Bool, false, Option, Some, None, Result, Ok, Err, List, [], ◌∷◌, ◌++◌, length, take, drop, get_or, slice_set, IfSome, OnOk, refl, sym, ap, subst, inl, inr, append_assoc, add-one, arith, rules}
-use Rattle.std.proofs.Math.Seq.{take-suc, map-set_same}
+use Rattle.std.proofs.Common.{◌≡◌, ◌∙◌, ℕ, ◌+◌, ◌<◌, ◌≤◌, Bool, Option, Some, None, Result, Ok, Err, List, [], ◌∷◌, ◌++◌, length, take, drop, get_or, IfSome, OnOk, refl, sym, ap, subst, inl, inr, append_assoc, add-one, arith, rules}
+use Rattle.std.proofs.Math.Seq.{take-suc}
 use Rattle.std.proofs.lemmas.Option.{none-some}
 use Rattle.std.proofs.lemmas.Result.{IfOk-at_ok}
-use Rattle.std.proofs.lemmas.List.{append-nil, ext_get_or, get_or-map, get_or-take, length-map, length-take-le, map-append, take-append-drop, take-map}
+use Rattle.std.proofs.lemmas.List.{append-nil, map-append, take-append-drop}
 use Rattle.record_io.specs.Outside.{Rose}
 use Rattle.record_io.specs.Calls.{OnlyCounts}
 use Rattle.chunk_header.specs.Chunks.{ChunkValue}
@@ -11,7 +11,6 @@ use Rattle.chunk_header.specs.SimpleChunks.{simple_chunk}
 use Rattle.meta_chunk.specs.Laid.{end_of_chunk}
 use Rattle.meta_chunk.specs.Files.{end_of_chunks}
 use Rattle.meta_chunk.proofs.Joins.{end_of_chunks-append, end_of_chunks_past}
-use Rattle.simple_chunk.specs.SimpleParts.{SimpleValue}
 use Rattle.record_group.specs.Groupings.{Grouping, groups_from}
 use Rattle.record_writer.specs.declared.cut_off.CutOff.{CutOff}
 use Rattle.record_writer.specs.declared.cut_off.CutOff.TheVariants as cut
@@ -21,7 +20,7 @@ use Rattle.record_writer.specs.declared.group_taker.FeedPart.TheVariants.{Window
 use Rattle.record_writer.specs.Feeds.{Rest}
 use Rattle.record_writer.specs.FeedSteps.{nothing_left}
 use Rattle.record_writer.specs.MadeFiles.{MadeFileValue, AreGiven, Lays, LaysFront, chunks_of_groups, reach_of}
-use Rattle.record_writer.specs.Windows.{AreFront, AreTaken, TakesGroups, groups_of}
+use Rattle.record_writer.specs.Windows.{AreFront, AreTaken, TakesGroups}
 use Rattle.record_writer.proofs.Layings.{Lays-append, LaysFront-behind, LaysFront-longer}
 use Rattle.record_writer.proofs.Given.{AreGiven-ended, chunks_of_groups-all}
 
@@ -37,63 +36,6 @@ handed_on end other told = let same : end ≡ other = cc told in ap Err same
 pub OnOk-any : {X E P : Type 0} (result : Result X E) → P → OnOk result P
 OnOk-any (Ok x) h = h
 OnOk-any (Err e) h = tt
-
--- the chunk of a group stands where the group does
-pub group-at : (chunks : List SimpleValue) (count : ℕ) (groups : List (List (List ℕ))) (i : ℕ) (chunk : SimpleValue) → groups_of (take count chunks) ≡ groups
-    → i < count → count ≤ length chunks → chunk ≡ get_or chunks i chunk
-    → (i < length groups) × (chunk.records ≡ get_or groups i chunk.records)
-group-at chunks count groups i chunk of within held is =
-    let records : SimpleValue → List (List ℕ) = λ c. c.records in
-    let many = length-take-le count chunks held in (
-      omega (arith, within, many, ap length of, length-map (take count chunks) records),
-      ap records (is ∙ sym (get_or-take count chunks i chunk within))
-          ∙ sym (get_or-map records (take count chunks) i chunk chunk.records (omega (arith, within, many)))
-          ∙ ap (λ (groups : List (List (List ℕ))). get_or groups i chunk.records) of,
-    )
-
--- and the groups are the same with another chunk of that group in its place
-pub groups-kept : (chunks : List SimpleValue) (count : ℕ) (groups : List (List (List ℕ))) (i : ℕ) (chunk other : SimpleValue) → groups_of (take count chunks) ≡ groups
-    → chunk ≡ get_or chunks i chunk → other.records ≡ chunk.records → groups_of (take count (slice_set chunks i other)) ≡ groups
-groups-kept chunks count groups i chunk other of is same =
-    let records : SimpleValue → List (List ℕ) = λ c. c.records in
-    sym (take-map records count (slice_set chunks i other))
-    ∙ ap (take count) (map-set_same records chunks i other chunk (same ∙ ap records is))
-    ∙ take-map records count chunks
-    ∙ of
-
--- or with other chunks, each of the same group
-pub groups-each : (old new : List SimpleValue) → length new ≡ length old
-    → ((i : ℕ) (d : SimpleValue) → i < length old → (get_or new i d).records ≡ (get_or old i d).records) → groups_of new ≡ groups_of old
-groups-each old new same each =
-    let records : SimpleValue → List (List ℕ) = λ c. c.records in
-    let none : SimpleValue = record { records = []; encoded = false } in
-    ext_get_or [] (groups_of new) (groups_of old) (length-map new records ∙ same ∙ sym (length-map old records))
-    (λ i within.
-    let below : i < length old = omega (arith, within, same, length-map new records) in
-    get_or-map records new i none [] (omega (arith, below, same))
-    ∙ each i none below
-    ∙ sym (get_or-map records old i none [] below))
-
--- of which there are as many then
-pub length-same_groups : (old new : List SimpleValue) → groups_of new ≡ groups_of old → length new ≡ length old
-length-same_groups old new same =
-    let records : SimpleValue → List (List ℕ) = λ c. c.records in
-    omega (arith, ap length same, length-map new records, length-map old records)
-
--- and the first of them are the same too
-pub groups-taken : (old new : List SimpleValue) (count : ℕ) → groups_of new ≡ groups_of old → groups_of (take count new) ≡ groups_of (take count old)
-groups-taken old new count same =
-    let records : SimpleValue → List (List ℕ) = λ c. c.records in
-    sym (take-map records count new) ∙ ap (take count) same ∙ take-map records count old
-
--- or others with the same ones behind them
-pub groups-front : (old new rest all : List SimpleValue) → groups_of new ≡ groups_of old → all ≡ old ++ rest → groups_of (new ++ rest) ≡ groups_of all
-groups-front old new rest all same is =
-    let records : SimpleValue → List (List ℕ) = λ c. c.records in
-    map-append records new rest
-    ∙ ap (λ (groups : List (List (List ℕ))). groups ++ groups_of rest) same
-    ∙ sym (map-append records old rest)
-    ∙ sym (ap groups_of is)
 
 -- the chunks of the groups up to one, and that one's behind them
 chunks-next : (groups : List (List (List ℕ))) (i : ℕ) (group : List (List ℕ)) → i < length groups → group ≡ get_or groups i group

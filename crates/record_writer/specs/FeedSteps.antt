@@ -48,11 +48,11 @@ pub record IsAtEnd (before after : Option Rest) : Type 0 where
   pub at_end : IfSome before (λ rest. rest ≡ nothing_left)
   pub kept : after ≡ before
 
--- a feed gave nothing to a grouper
+-- a feed put nothing into an open group
 pub record HandsNone (before after : Option Rest) (old_bound new_bound : ℕ) (old new : Grouping) : Type 0 where
   pub rest : after ≡ before
   pub bound : new_bound ≡ old_bound
-  pub grouper : new ≡ old
+  pub grouping : new ≡ old
 
 -- a call reads nothing of what a feed reads: whether it may be asked, what it reads and its count of faults stay
 pub record ReadsNothing {L N : Type 0} (going : L → Bool) (origin : L → N) (faults : L → ℕ) (before after : L) : Type 0 where
@@ -60,7 +60,7 @@ pub record ReadsNothing {L N : Type 0} (going : L → Bool) (origin : L → N) (
   pub same_origin : origin after ≡ origin before
   pub same_faults : faults after ≡ faults before
 
--- a feed gave its next record, and a grouper took it behind those of its open group
+-- a feed gave its next record, which went into an open group behind the others
 pub record HandsOn (before after : Option Rest) (old_bound new_bound : ℕ) (old new : Grouping) : Type 0 where
   pub record_bytes : List ℕ
   pub gives : GivesRecord before after record_bytes

@@ -6,5 +6,5 @@ pub mod OptionLimits
 pub mod MadeFiles
 pub mod Ends
 pub mod Windows
-pub mod CodedWindows
+pub mod EncodedWindows
 pub mod Behind

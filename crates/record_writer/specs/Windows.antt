@@ -1,9 +1,7 @@
 -- Inside. What is taken of a feed before it is put. Own.
-use Rattle.std.specs.Prelude.{◌≡◌, ◌≢◌, ℕ, ◌<◌, ◌≤◌, Bool, true, Option, Some, None, Result, Ok, Err, List, [], ◌++◌, map, IfSome, OnOk}
-use Rattle.std.specs.Borrow.{MutBor}
+use Rattle.std.specs.Prelude.{◌≡◌, ◌≢◌, ℕ, ◌<◌, ◌≤◌, Bool, true, false, Option, Some, None, Result, Ok, Err, List, [], ◌∷◌, ◌++◌, IfSome}
 use Rattle.record_io.specs.Calls.{OnlyCounts}
 use Rattle.meta_chunk.specs.Files.{end_of_chunks}
-use Rattle.simple_chunk.specs.SimpleParts.{SimpleValue}
 use Rattle.record_group.specs.Groups.{groups}
 use Rattle.record_group.specs.Groupings.{Grouping, groups_from}
 use Rattle.record_writer.specs.declared.cut_off.CutOff.{CutOff}
@@ -15,9 +13,20 @@ use Rattle.record_writer.specs.Feeds.{Rest}
 use Rattle.record_writer.specs.FeedSteps.{nothing_left}
 use Rattle.record_writer.specs.MadeFiles.{AreGiven, chunks_of_groups, reach_of}
 
--- the groups whose chunks these are
-abbrev pub groups_of : List SimpleValue → List (List (List ℕ))
-groups_of = map (λ (chunk : SimpleValue). chunk.records)
+-- the groups of a window, and whether their chunks are encoded
+pub record WindowValue : Type 0 where
+  pub groups : List (List (List ℕ))
+  pub encoded : Bool
+
+-- a grouping whose open group has one more record
+abbrev pub with_record : Grouping → List ℕ → Grouping
+with_record grouping record_bytes = record grouping { group = grouping.group ++ record_bytes ∷ [] }
+
+-- what is open once a part of a feed is taken: behind a window also the record that was pulled last
+abbrev pub open_after : Result FeedPart CutOff → Grouping → List ℕ → Grouping
+open_after (Ok Window) grouping record_bytes = with_record grouping record_bytes
+open_after (Ok (All stop)) grouping record_bytes = grouping
+open_after (Err cut) grouping record_bytes = grouping
 
 -- groups are a front of those of a feed's records behind an open group, where it shows the records
 abbrev pub AreFront : Option Rest → Grouping → List (List (List ℕ)) → Type 0
@@ -50,26 +59,22 @@ pub record HasTakenNone (taker : Grouping) (options : WriteOptions) : Type 0 whe
   pub no_record : taker.group ≡ []
   pub all : (records : List (List ℕ)) → groups_from taker records ≡ groups records options.size options.every
 
--- no window has a group, that to be put next, that to be coded and that to be filled, so the one to be coded can be put
-pub record HaveNoGroup {W : Type 0} (groups_in : W → List (List (List ℕ))) (can_be_put : W → Type 0) (first second third : W) : Type 0 where
-  pub next : groups_in first ≡ []
-  pub taken : groups_in second ≡ []
-  pub free : groups_in third ≡ []
-  pub ready : can_be_put second
+-- the chunks of a window can be put: they are encoded, unless it has no group
+abbrev pub IsReady : WindowValue → Type 0
+IsReady window = window.encoded ≡ false → window.groups ≡ []
+
+-- the chunks of a window's groups are encoded, and the groups stay
+pub record IsEncoded (before after : WindowValue) : Type 0 where
+  pub ready : IsReady after
+  pub same : after.groups ≡ before.groups
+
+-- no window has a group, that to be put next, that to be encoded and that to be filled, so the one to be encoded can be put
+pub record HaveNoGroup (next taken free : WindowValue) : Type 0 where
+  pub next_empty : next.groups ≡ []
+  pub taken_empty : taken.groups ≡ []
+  pub free_empty : free.groups ≡ []
 
 -- the window to be put next can be put, and the one to be filled next has no group
-pub record StandInOrder {W : Type 0} (groups_in : W → List (List (List ℕ))) (can_be_put : W → Type 0) (first last : W) : Type 0 where
-  pub ready : can_be_put first
-  pub free : groups_in last ≡ []
-
--- the chunks of a window's groups are made, which stay
-pub record IsCoded {W : Type 0} (groups_in : W → List (List (List ℕ))) (can_be_put : W → Type 0) (before after : W) : Type 0 where
-  pub ready : can_be_put after
-  pub same : groups_in after ≡ groups_in before
-
--- a function makes the chunks of any window's groups, unless memory is short
-pub record CodesWindows {W E : Type 0} (groups_in : W → List (List (List ℕ))) (can_be_put : W → Type 0)
-    (pre : MutBor W → Type 0) (post : MutBor W → Result (Unit {0}) E → MutBor W → Type 0) : Type 0 where
-  pub accepts : (window : MutBor W) → pre window
-  pub codes : (before after : MutBor W) (result : Result (Unit {0}) E) → post before result after
-      → OnOk result (IsCoded groups_in can_be_put before.now after.now)
+pub record StandInOrder (next free : WindowValue) : Type 0 where
+  pub ready : IsReady next
+  pub empty : free.groups ≡ []

@@ -3,7 +3,7 @@ ghost use Rattle.record_io.specs.Calls.{OnlyCounts};
 ghost use Rattle.record_writer.specs.Feeds.{Rest, stop_alone};
 ghost use Rattle.record_writer.specs.FeedSteps.{GivesNext, HandsNone, HandsOn, IsAtEnd, Origin, ReadsNothing, no_origin};
 
-use record_group::Grouper;
+use record_group::GroupBuffer;
 use record_io::{Bytes, Failed};
 use std::alloc::{AllocError, Global};
 
@@ -83,12 +83,15 @@ pub trait RecordFeed {
         ensures never_rises { bound self.new ≤ bound self.old }
         ensures counts { OnlyCounts origin faults (result ≡ Err FeedEnd.Failed) self.old self.new };
 
-    /// Hands the next record to the grouper, so that it is copied once, where the feed holds all of it and no group closes
-    /// before it, and answers whether that is so. Else, and after want of memory, both are as before. A feed need not do so.
-    fn push_held(&mut self, grouper: &mut Grouper) -> Result<bool, AllocError>
-        ensures pushed { result ≡ Ok true → HandsOn (rest self.old) (rest self.new) (bound self.old) (bound self.new) grouper.old grouper.new }
-        ensures kept { result ≢ Ok true → HandsNone (rest self.old) (rest self.new) (bound self.old)
-            (bound self.new) grouper.old grouper.new }
+    /// Puts the next record into the open group of a buffer, so that it is copied once, where the feed holds all of it and that
+    /// group doesn't close before it, and answers whether that is so. Else, and after want of memory, both are as before. A feed
+    /// need not do so.
+    fn push_held(&mut self, into: &mut GroupBuffer) -> Result<bool, AllocError>
+        ensures pushed { result ≡ Ok true → HandsOn (rest self.old) (rest self.new) (bound self.old) (bound self.new)
+            into.old.grouping into.new.grouping }
+        ensures kept { result ≢ Ok true → HandsNone (rest self.old) (rest self.new) (bound self.old) (bound self.new)
+            into.old.grouping into.new.grouping }
+        ensures closed { into.new.closed ≡ into.old.closed }
         ensures keeps { ReadsNothing going origin faults self.old self.new }
     {
         Ok(false)

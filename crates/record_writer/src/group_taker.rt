@@ -1,10 +1,11 @@
 ghost use Rattle.std.specs.Option.{option_to_list};
-ghost use Rattle.std.specs.Prelude.{◌≡◌, ℕ, ◌+◌, ◌^◌, ◌<◌, ◌≤◌, true, Option, List, [], ◌++◌, length, OnOk, OnErr};
+ghost use Rattle.std.specs.Prelude.{◌≡◌, ℕ, ◌+◌, ◌^◌, ◌≤◌, true, false, Ok, Option, List, [], ◌++◌, length, OnOk, OnErr};
 ghost use Rattle.meta_chunk.specs.Files.{end_of_chunks};
-ghost use Rattle.record_group.specs.Groupings.{groups_from, IsPush};
+ghost use Rattle.record_group.specs.Groups.{closes_before};
+ghost use Rattle.record_group.specs.Groupings.{IsPush};
 ghost use Rattle.record_writer.specs.FeedSteps.{ReadsNothing};
 ghost use Rattle.record_writer.specs.MadeFiles.{AreGiven, chunks_of_groups, reach_of};
-ghost use Rattle.record_writer.specs.Windows.{HasTakenNone, TakesGroups};
+ghost use Rattle.record_writer.specs.Windows.{HasTakenNone, TakesGroups, open_after, with_record};
 ghost use Rattle.record_writer.specs.OptionLimits.{AreInLimits};
 
 use crate::cut_off::CutOff;
@@ -12,11 +13,22 @@ use crate::feed::{FeedEnd, RecordFeed, Stop};
 use crate::options::WriteOptions;
 use crate::pace::Pace;
 use crate::window::Window;
-use record_group::Grouper;
+use record_group::GroupBuffer;
 use record_io::Bytes;
 use std::alloc::{AllocError, Global};
 use std::marker::Model;
-use std::mem;
+
+/// A window of so many bytes is full while the work on those before is done.
+const LEAST: u64 = 3 << 19;
+
+/// A window of so many bytes is full also while that work goes on.
+const MOST: u64 = 1 << 22;
+
+/// How many groups for each worker fill the first window, so that the workers begin soon.
+const FIRST_GROUPS: usize = 4;
+
+/// How many groups fill a later window, of whatever size.
+const MOST_GROUPS: usize = 1 << 16;
 
 /// How much of a feed was taken. Own.
 #[derive(Clone, Copy, Debug, PartialEq, Eq)]
@@ -27,21 +39,27 @@ pub(crate) enum FeedPart {
     All(Option<Stop>),
 }
 
-/// Takes the groups of a feed's records, window by window. Contracts see what its grouper keeps. Own.
+/// Takes the groups of a feed's records, window by window. Contracts see the open group, and what groups are limited to: between
+/// windows no other is held. Own.
 #[derive(Drop)]
 pub(crate) struct GroupTaker {
     alloc: Global,
-    grouper: Grouper,
+    buffer: GroupBuffer,
     /// The record that was pulled last.
     rec: Bytes,
+    /// How many groups fill the next window, of whatever size.
+    groups: usize,
 }
 
 impl Model for GroupTaker {
+    ghost use Rattle.std.specs.Prelude.{◌≡◌, []};
     ghost use Rattle.record_group.specs.Groupings.{Grouping};
 
     ghost Value = { Grouping };
 
-    ghost view = { λ t. t.grouper };
+    ghost view = { λ t. t.buffer.grouping };
+
+    ghost invariant = { λ t. t.buffer.closed ≡ [] };
 }
 
 impl GroupTaker {
@@ -52,93 +70,110 @@ impl GroupTaker {
     {
         GroupTaker {
             alloc,
-            grouper: Grouper::new(alloc, options.size, options.every),
+            buffer: GroupBuffer::new(alloc, options.size, options.every),
             rec: Bytes::new(alloc),
+            groups: options.workers as usize * FIRST_GROUPS,
         }
     }
 
-    /// Takes the feed's next records into an empty window, and keeps each group that closes, until the window is full. At the end
-    /// of the feed, also where that is a stop, the last group is in it.
-    pub fn take_groups<W: Window, L: RecordFeed>(
+    /// Takes the feed's next records, and hands each group that closes to an empty window, until that is full. At the end of the
+    /// feed, also where that is a stop, the last group is in it.
+    pub fn take_groups<L: RecordFeed>(
         &mut self,
         feed: &mut L,
-        window: &mut W,
+        window: &mut Window,
         pace: &Pace,
     ) -> Result<FeedPart, CutOff>
         requires feed_going { L.going feed.old ≡ true }
-        requires empty { W.groups window.old ≡ [] }
-        ensures { TakesGroups L.rest L.bound L.going L.origin L.faults feed.old feed.new self.old self.new (W.groups window.new) result }
+        requires empty { window.old.groups ≡ [] }
+        ensures { TakesGroups L.rest L.bound L.going L.origin L.faults feed.old feed.new self.old self.new window.new.groups result }
     {
-        let stop = loop {
-            take_held(&mut self.grouper, feed)?;
-            match feed.pull(self.alloc, &mut self.rec) {
-                Ok(true) => take_record(
-                    self.alloc,
-                    &mut self.grouper,
-                    &mut self.rec,
-                    window,
-                    pace,
-                )?,
-                Ok(false) => break None,
-                Err(FeedEnd::Stop(stop)) => break Some(stop),
-                Err(FeedEnd::Failed) => return Err(CutOff::Input),
-                Err(FeedEnd::Memory) => return Err(CutOff::Memory),
-            }
-            if window.is_full(pace) {
-                return Ok(FeedPart::Window);
-            }
-        };
-        self.take_last(window, pace)?;
-        Ok(FeedPart::All(stop))
-    }
-
-    /// Takes the group of the last records, if there are some.
-    fn take_last<W: Window>(&mut self, window: &mut W, pace: &Pace) -> Result<(), AllocError>
-        requires { length (W.groups window.old) < 2 ^ 32 }
-        ensures taken { OnOk result (W.groups window.new ≡ W.groups window.old ++ groups_from self.old []) }
-        ensures kept { OnErr result (W.groups window.new ≡ W.groups window.old) }
-        ensures in_reach { (place : ℕ) → reach_of (end_of_chunks place (chunks_of_groups (W.groups window.new))) self.new 0
-            ≤ reach_of (end_of_chunks place (chunks_of_groups (W.groups window.old))) self.old 0 }
-    {
-        let next = self.grouper.emptied();
-        if let Some(mut group) = mem::replace(&mut self.grouper, next).finish() {
-            window.push(self.alloc, &mut group, pace)?;
+        let part = fill(
+            self.alloc,
+            &mut self.buffer,
+            &mut self.rec,
+            feed,
+            self.groups,
+            pace,
+        );
+        window.fill(&mut self.buffer);
+        self.groups = MOST_GROUPS;
+        if part == Ok(FeedPart::Window) {
+            self.buffer.append(self.rec.as_slice())?;
         }
-        Ok(())
+        part
     }
+}
+
+/// Takes the feed's next records into an empty buffer, until a group closes with which a window is full: the record before which
+/// it closed is left in `rec`. At the end of the feed, also where that is a stop, the last group closes.
+fn fill<L: RecordFeed>(
+    alloc: Global,
+    buffer: &mut GroupBuffer,
+    rec: &mut Bytes,
+    feed: &mut L,
+    groups: usize,
+    pace: &Pace,
+) -> Result<FeedPart, CutOff>
+    requires feed_going { L.going feed.old ≡ true }
+    requires empty { buffer.old.closed ≡ [] }
+    ensures taken { TakesGroups L.rest L.bound L.going L.origin L.faults feed.old feed.new buffer.old.grouping
+        (open_after result buffer.new.grouping rec.new) buffer.new.closed result }
+    ensures none_open { OnOk result (buffer.new.grouping.group ≡ []) }
+    ensures short { result ≡ Ok FeedPart.Window → length rec.new ≤ 2 ^ 24 }
+{
+    let stop = loop {
+        take_held(buffer, feed)?;
+        match feed.pull(alloc, rec) {
+            Ok(true) => {}
+            Ok(false) => break None,
+            Err(FeedEnd::Stop(stop)) => break Some(stop),
+            Err(FeedEnd::Failed) => return Err(CutOff::Input),
+            Err(FeedEnd::Memory) => return Err(CutOff::Memory),
+        }
+        if close_before(buffer, rec.as_slice())? && is_enough(buffer, groups, pace) {
+            return Ok(FeedPart::Window);
+        }
+        buffer.append(rec.as_slice())?;
+    };
+    buffer.close()?;
+    Ok(FeedPart::All(stop))
 }
 
 /// Takes the records that the feed holds, up to one before which a group closes.
-fn take_held<L: RecordFeed>(grouper: &mut Grouper, feed: &mut L) -> Result<(), AllocError>
-    ensures taken { AreGiven (L.rest feed.old) (L.rest feed.new) grouper.old grouper.new [] }
+fn take_held<L: RecordFeed>(buffer: &mut GroupBuffer, feed: &mut L) -> Result<(), AllocError>
+    ensures taken { AreGiven (L.rest feed.old) (L.rest feed.new) buffer.old.grouping buffer.new.grouping [] }
+    ensures closed { buffer.new.closed ≡ buffer.old.closed }
     ensures lowers { L.bound feed.new ≤ L.bound feed.old }
-    ensures in_reach { (place : ℕ) → reach_of place grouper.new (L.bound feed.new) ≤ reach_of place grouper.old (L.bound feed.old) }
+    ensures in_reach { (place : ℕ) → reach_of place buffer.new.grouping (L.bound feed.new) ≤ reach_of place buffer.old.grouping (L.bound feed.old) }
     ensures keeps { ReadsNothing L.going L.origin L.faults feed.old feed.new }
 {
-    while feed.push_held(grouper)? {}
+    while feed.push_held(buffer)? {}
     Ok(())
 }
 
-/// Takes a record, and keeps the group that closes before it, if one does.
-fn take_record<W: Window>(
-    alloc: Global,
-    grouper: &mut Grouper,
-    rec: &mut Bytes,
-    window: &mut W,
-    pace: &Pace,
-) -> Result<(), AllocError>
-    requires room { length (W.groups window.old) < 2 ^ 32 }
-    requires short { length rec.old ≤ 2 ^ 24 }
-    ensures whole { OnOk result ((given : Option (List (List ℕ)))
-        × IsPush grouper.old rec.old given grouper.new
-        × (W.groups window.new ≡ W.groups window.old ++ option_to_list given)) }
-    ensures kept { OnErr result (W.groups window.new ≡ W.groups window.old) }
-    ensures in_reach { (place : ℕ) → reach_of (end_of_chunks place (chunks_of_groups (W.groups window.new))) grouper.new 0
-        ≤ reach_of (end_of_chunks place (chunks_of_groups (W.groups window.old))) grouper.old (length rec.old + 1) }
+/// Closes the open group where that closes before the record, and answers whether it does. The record then has its place in the
+/// open group. After want of memory the buffer is as before.
+fn close_before(buffer: &mut GroupBuffer, rec: &[u8]) -> Result<bool, AllocError>
+    requires short { length rec.now ≤ 2 ^ 24 }
+    ensures pushes { OnOk result ((given : Option (List (List ℕ)))
+        × IsPush buffer.old.grouping rec.now given (with_record buffer.new.grouping rec.now)
+        × (buffer.new.closed ≡ buffer.old.closed ++ option_to_list given)) }
+    ensures goes_in { OnOk result (closes_before buffer.new.grouping.size buffer.new.grouping.every buffer.new.grouping.group rec.now ≡ false) }
+    ensures none_open { result ≡ Ok true → buffer.new.grouping.group ≡ [] }
+    ensures in_reach { OnOk result ((place : ℕ) → reach_of (end_of_chunks place (chunks_of_groups buffer.new.closed)) (with_record buffer.new.grouping rec.now) 0
+        ≤ reach_of (end_of_chunks place (chunks_of_groups buffer.old.closed)) buffer.old.grouping (length rec.now + 1)) }
+    ensures kept { OnErr result (buffer.new ≡ buffer.old) }
 {
-    if let Some(mut group) = grouper.push_from(rec)? {
-        window.push(alloc, &mut group, pace)?;
-        grouper.reuse(group);
+    if !buffer.closes_before(rec) {
+        return Ok(false);
     }
-    Ok(())
+    buffer.close()?;
+    Ok(true)
+}
+
+/// Whether a window is full with the groups that closed.
+fn is_enough(buffer: &GroupBuffer, groups: usize, pace: &Pace) -> bool {
+    let size = if pace.is_behind() { MOST } else { LEAST };
+    buffer.groups() >= groups || buffer.size() >= size || pace.has_failed()
 }

@@ -1,8 +1,6 @@
 //! The write engine: a feed of records to the file of them.
 #![tactic(auto)]
 
-mod coded_window;
-mod coding;
 mod cut_off;
 mod engine;
 mod feed;
@@ -13,7 +11,6 @@ mod options;
 mod pace;
 mod pipeline;
 mod records_feed;
-mod simple_window;
 mod window;
 
 pub use engine::{WriteEnd, write_after, write_coded, write_records};

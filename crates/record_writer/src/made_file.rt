@@ -1,7 +1,10 @@
-ghost use Rattle.std.specs.Prelude.{◌≡◌, ◌^◌, ◌≤◌, true, [], ◌∷◌};
+ghost use Rattle.std.specs.Prelude.{◌≡◌, ◌^◌, ◌≤◌, true, [], ◌∷◌, if◌then◌else◌};
+ghost use Rattle.std.specs.List.{concat};
 ghost use Rattle.record_io.specs.Calls.{PutsTo};
 ghost use Rattle.chunk_header.specs.SimpleChunks.{simple_chunk};
 ghost use Rattle.chunk_header.specs.Views.{value_of_chunk, HasRightHash};
+ghost use Rattle.simple_chunk.specs.Costs.{cost_of};
+ghost use Rattle.chunk_workers.specs.Coded.{StandsFor};
 ghost use Rattle.meta_chunk.specs.Files.{is_unread, signature};
 ghost use Rattle.meta_chunk.specs.PaddingSizes.{padding_at};
 ghost use Rattle.ordered_writer.specs.Writers.{IsBoundaryWithin};
@@ -9,13 +12,13 @@ ghost use Rattle.record_group.specs.Groups.{padding_if};
 ghost use Rattle.record_writer.specs.MadeFiles.{LaysOrSpends, MayLay, MayPad, nothing_made, resumed_at, totals_made};
 
 use chunk_header::Chunk;
+use chunk_workers::Head;
 use ordered_writer::OrderedWriter;
 use record_io::{Failed, PutBuffer, Sink, Totals};
-use simple_chunk::SimpleChunk;
+use simple_chunk::RecordsRef;
 use std::marker::Model;
 
-/// A file that is being made, chunk by chunk. Its bytes gather, up to 65,536 of them, before they go to the sink, so `flush`
-/// comes last; but a run of more than a quarter of that, as between two block headers in a large chunk, goes straight there.
+/// A file that is being made, chunk by chunk. Its bytes go to the sink by whole blocks of 65,536, so `flush` comes last.
 /// After a `start` or `put` that failed there is no other, and nothing is held. Own.
 #[derive(Drop)]
 pub struct MadeFile {
@@ -52,7 +55,7 @@ impl MadeFile {
     {
         MadeFile {
             writer: OrderedWriter::resume(place),
-            buffer: PutBuffer::new(),
+            buffer: PutBuffer::at(place),
             chunks: 0,
             records: 0,
             unread: 0,
@@ -98,28 +101,36 @@ impl MadeFile {
         Ok(())
     }
 
-    /// Puts an encoded simple chunk where the one before ends.
+    /// Puts the encoded chunk of a group where the one before ends.
     ///
     /// # Errors
     ///
-    /// `Failed` only where the sink failed. It took a front of what was held and the chunk, and not all. Nothing is held then, and
+    /// `Failed` only where the sink failed. It took a prefix of what was held and the chunk, and not all. Nothing is held then, and
     /// the counts are as before.
-    pub(crate) fn put_simple<M: Sink>(
+    pub(crate) fn put_coded<M: Sink>(
         &mut self,
         made: &mut M,
-        chunk: &SimpleChunk,
+        head: &Head,
+        front: &[u8],
+        group: &RecordsRef<'_>,
     ) -> Result<(), Failed>
-        requires may_lay { MayLay self.old (simple_chunk chunk.now.records ∷ []) }
-        requires encoded { chunk.now.encoded ≡ true }
+        requires may_lay { MayLay self.old (simple_chunk group.now ∷ []) }
+        requires stands { StandsFor (simple_chunk group.now) group.now (record { head = head.now; front = front.now }) }
+        requires short { cost_of group.now ≤ 2 ^ 25 }
         ensures laid { LaysOrSpends M.taken M.lent M.faults result self.old self.new
-            (simple_chunk chunk.now.records ∷ []) made.old made.new }
+            (simple_chunk group.now ∷ []) made.old made.new }
     {
-        let header = chunk.header();
-        let (front, records) = chunk.data();
-        self.writer
-            .put_parts_into(&mut self.buffer, made, header, front, records)?;
+        let values = values_after(head, group);
+        self.writer.put_encoded_into(
+            &mut self.buffer,
+            made,
+            &head.header,
+            head.num_records,
+            front,
+            values,
+        )?;
         self.chunks += 1;
-        self.records += header.num_records;
+        self.records += head.num_records;
         Ok(())
     }
 
@@ -171,5 +182,16 @@ impl MadeFile {
             bytes: self.writer.position(),
             unread: self.unread,
         }
+    }
+}
+
+/// The bytes of a group's records where they belong behind what was encoded of its chunk.
+fn values_after<'a>(head: &Head, group: &'a RecordsRef<'_>) -> &'a [u8]
+    ensures { result.now ≡ (if head.now.takes_values then concat group.now else []) }
+{
+    if head.takes_values {
+        group.values()
+    } else {
+        &[]
     }
 }

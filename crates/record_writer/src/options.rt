@@ -5,8 +5,7 @@ use record_group::Pad;
 pub struct WriteOptions {
     /// What a group of two or more records may cost at most: each record its bytes and 8 more. From 1 to 2^24.
     pub size: u64,
-    /// How many threads `write_coded` makes to encode, from 1 to 16. `write_records` makes none with 1, since the two encode that
-    /// take records and put chunks, and two with more.
+    /// How many workers encode chunks, each in a thread of its own, from 1 to 16.
     pub workers: u32,
     /// How many records a group has at most, from 1 to 2^24, where that is limited.
     pub every: Option<u64>,

@@ -3,7 +3,7 @@ ghost use Rattle.std.specs.List.{AllByRecursion, flat_map};
 ghost use Rattle.record_writer.specs.FeedSteps.{feed_bound, first_length, left_of};
 
 use crate::feed::{FeedEnd, RecordFeed};
-use record_group::Grouper;
+use record_group::GroupBuffer;
 use record_io::Bytes;
 use simple_chunk::Records;
 use std::alloc::{AllocError, Global};
@@ -84,11 +84,11 @@ impl<'a> RecordFeed for RecordsFeed<'a> {
         Ok(true)
     }
 
-    fn push_held(&mut self, grouper: &mut Grouper) -> Result<bool, AllocError> {
+    fn push_held(&mut self, into: &mut GroupBuffer) -> Result<bool, AllocError> {
         let Some(next) = self.next_record() else {
             return Ok(false);
         };
-        if !grouper.push_open(next)? {
+        if !into.push_open(next)? {
             return Ok(false);
         }
         self.at += 1;

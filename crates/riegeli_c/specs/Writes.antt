@@ -5,7 +5,7 @@ use Rattle.block_layout.specs.Layout.{IsBoundary}
 use Rattle.chunk_header.specs.Chunks.{ChunkValue}
 use Rattle.chunk_header.specs.SimpleChunks.{simple_chunk}
 use Rattle.meta_chunk.specs.Files.{signature, end_of_chunks}
-use Rattle.simple_chunk.specs.Records.{records_from}
+use Rattle.simple_chunk.specs.Records.{parts_from}
 use Rattle.record_group.specs.declared.pad.Pad.{Pad}
 use Rattle.record_group.specs.declared.pad.Pad.TheVariants.{No, Start, End, Both}
 use Rattle.record_group.specs.Groups.{groups, pads_end, padding_if, front_padding}
@@ -22,7 +22,7 @@ pad_told number = if number == 1 then Start else (if number == 2 then End else (
 
 -- the records that lie one behind another among values, and end at these places of them
 abbrev pub records_cut : (values ends : List ℕ) → List (List ℕ)
-records_cut values ends = records_from 0 ends values
+records_cut values ends = parts_from 0 ends values
 
 -- of records that begin at a place of values none ends before it begins or behind the last of so many values, or has more than
 -- 2 ^ 24 bytes

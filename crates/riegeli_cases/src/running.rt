@@ -6,9 +6,9 @@ use anyhow::{Result, bail};
 use case_text::files::GivenFile;
 use case_text::given::{Given, Object};
 use case_text::left::Left;
-use record_append::{Device, MemDevice};
-use record_io::{MemInput, MemSink, MemStore, Store};
+use record_io::{Device, Store};
 use riegeli_tool::run;
+use scripted_io::{MemDevice, MemInput, MemSink, MemStore};
 use std::alloc::{AllocError, Global};
 use std::thread::Threads;
 

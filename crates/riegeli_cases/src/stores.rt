@@ -30,7 +30,7 @@ impl<'a> Untold<'a> {
 }
 
 impl Store for Untold<'_> {
-    ghost use Rattle.record_io.specs.Memory.{told_if};
+    ghost use Rattle.scripted_io.specs.Memory.{told_if};
 
     ghost bytes = { λ _. None };
 

@@ -1,8 +1,8 @@
 //! Runs of each command over real files.
 use crate::named_files::run_on_files;
 use real_files::{Behind, file_at};
-use record_io::{MemInput, MemSink};
 use riegeli_tool::Status;
+use scripted_io::{MemInput, MemSink};
 use std::alloc::{AllocError, Global};
 use std::fs;
 use std::os::unix::fs::symlink;

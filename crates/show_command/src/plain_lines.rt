@@ -24,7 +24,7 @@ pub(crate) fn put_plain<O: Sink>(
     while number < records.len() {
         let (next, count) = lay_lines(&mut page, records, number);
         if number < next {
-            lines.put(out, &page[..count])?;
+            lines.put_straight(out, &page[..count])?;
             number = next;
         } else {
             put_record(&BARE, 0, records.get(number), lines, out)?;

@@ -90,7 +90,7 @@ fn put_bytes<O: Sink>(
     if form.hex {
         put_digits(bytes, lines, out)
     } else {
-        lines.put(out, bytes)
+        lines.put_straight(out, bytes)
     }
 }
 

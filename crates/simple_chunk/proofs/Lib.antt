@@ -1,5 +1,7 @@
 pub mod CostLemmas
+pub mod Parts
 pub mod RecordLists
+mod GroupLists
 mod Sizes
 pub mod SizeLemmas
 mod Checking

@@ -10,8 +10,9 @@ use Rattle.chunk_header.specs.Chunks.{ChunkValue}
 use Rattle.chunk_header.specs.Kinds.{simple_kind}
 use Rattle.chunk_header.specs.SimpleChunks.{IsSimple, IsSimpleChunk}
 use Rattle.chunk_header.proofs.SimpleChunks.{sum-map-length}
-use Rattle.simple_chunk.proofs.RecordLists.{AreEnds-le, length-records_from, concat-records_from}
-use Rattle.simple_chunk.specs.Records.{records_from, AreEnds, sizes_between}
+use Rattle.simple_chunk.proofs.Parts.{AreEnds-le, length-parts_from}
+use Rattle.simple_chunk.proofs.RecordLists.{concat-parts_from}
+use Rattle.simple_chunk.specs.Records.{parts_from, AreEnds, sizes_between}
 use Rattle.simple_chunk.specs.Sizes.{AreSizes, AreParts, IsSplit}
 
 -- a simple chunk's records are what its sizes say
@@ -101,29 +102,29 @@ pub none-spelled : (k : ChunkValue) (sizes values : List ℕ) → AreParts k.«d
 none-spelled k sizes values p whole other = λ h. other (rw whole (Holding-IsSimpleChunk k sizes values p h).sizes_are)
 
 -- so many bytes lie between the begin and the end of each record
-map-length-records_from : (begin : ℕ) (ends values : List ℕ) → AreEnds begin ends (length values)
-    → map length (records_from begin ends values) ≡ sizes_between begin ends
-map-length-records_from begin [] values h = refl
-map-length-records_from begin (end ∷ ends) values h =
+map-length-parts_from : (begin : ℕ) (ends values : List ℕ) → AreEnds begin ends (length values)
+    → map length (parts_from begin ends values) ≡ sizes_between begin ends
+map-length-parts_from begin [] values h = refl
+map-length-parts_from begin (end ∷ ends) values h =
     let within = AreEnds-le end ends (length values) h.1 in
     let size : length (take (end - begin) (drop begin values)) ≡ end - begin =
     length-take-le (end - begin) (drop begin values) (omega (arith, length-drop begin values, h.0)) in
-    cc (size, map-length-records_from end ends values h.1)
+    cc (size, map-length-parts_from end ends values h.1)
 
 -- the records that end at the places which the sizes make are the chunk's
 pub IsSimple-ends : (k : ChunkValue) (sizes values ends : List ℕ) → k.kind ≡ simple_kind → AreParts k.«data» sizes values
     → length values ≡ k.decoded_size → AreEnds 0 ends (length values) → length ends ≡ k.num_records
-    → SpellsEach (sizes_between 0 ends) sizes → IsSimple k (records_from 0 ends values)
+    → SpellsEach (sizes_between 0 ends) sizes → IsSimple k (parts_from 0 ends values)
 IsSimple-ends k sizes values ends kind p whole ended counted spelled =
-    let joined : concat (records_from 0 ends values) ≡ values = concat-records_from 0 ends values ended in
+    let joined : concat (parts_from 0 ends values) ≡ values = concat-parts_from 0 ends values ended in
     record {
       kind = kind;
-      num_records = sym (length-records_from 0 ends values ∙ counted);
-      decoded_size = sym (sum-map-length (records_from 0 ends values) ∙ ap length joined ∙ whole);
+      num_records = sym (length-parts_from 0 ends values ∙ counted);
+      decoded_size = sym (sum-map-length (parts_from 0 ends values) ∙ ap length joined ∙ whole);
       spelled_size = p.spelled_size;
       sizes = sizes;
       spells_size = p.spells_size;
-      spells_each = subst (λ (xs : List ℕ). SpellsEach xs sizes) (sym (map-length-records_from 0 ends values ended)) spelled;
+      spells_each = subst (λ (xs : List ℕ). SpellsEach xs sizes) (sym (map-length-parts_from 0 ends values ended)) spelled;
       «data» = p.joined ∙ ap (λ (xs : List ℕ). 0 ∷ p.spelled_size ++ sizes ++ xs) (sym joined);
     }
 
@@ -155,7 +156,7 @@ pub IsSimpleChunk-parts : (k : ChunkValue) (sizes values : List ℕ) → k.kind 
     → length values ≡ k.decoded_size → AreSizes k.num_records k.decoded_size sizes → IsSimpleChunk k
 IsSimpleChunk-parts k sizes values kind p whole h =
     let ends : List ℕ = ends_of 0 h.sizes in (
-      records_from 0 ends values,
+      parts_from 0 ends values,
       IsSimple-ends k sizes values ends kind p whole
           (AreEnds-ends_of 0 h.sizes (length values) (omega (arith, h.together)))
           (length-ends_of 0 h.sizes ∙ h.many)

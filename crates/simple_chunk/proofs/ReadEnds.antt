@@ -4,7 +4,7 @@ use Rattle.std.proofs.lemmas.List.{length-append, append_assoc, append-nil}
 use Rattle.varint_wire.specs.Varint.{SpellsEach}
 use Rattle.simple_chunk.specs.Records.{AreEnds, sizes_between}
 use Rattle.simple_chunk.specs.Sizes.{AreSizes, IsSplit}
-use Rattle.simple_chunk.proofs.RecordLists.{AreEnds-push}
+use Rattle.simple_chunk.proofs.Parts.{AreEnds-push}
 use Rattle.simple_chunk.proofs.SizeLemmas.{FirstSize-split, AreSizes-none, AreSizes-unspelled}
 
 -- one more end is one more size

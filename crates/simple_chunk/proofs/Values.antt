@@ -3,15 +3,21 @@ use Rattle.std.proofs.Common.{◌≡◌, ℕ, zero, suc, ◌<◌, ◌≤◌, [],
 use Rattle.varint_wire.proofs.Spellings.{Spells-small}
 use Rattle.varint_wire.proofs.Values.{longer_spelling_of_1}
 use Rattle.simple_chunk.specs.Costs.{cost_of}
-use Rattle.simple_chunk.specs.Records.{records_from, sizes_between}
+use Rattle.simple_chunk.specs.Records.{parts_from, sizes_between}
+use Rattle.simple_chunk.specs.RecordGroups.{cut_at, value_of}
 use Rattle.simple_chunk.specs.Sizes.{AreSizes, AreParts}
 use Rattle.simple_chunk.specs.Checkers.{Completes, Compresses}
 use Rattle.simple_chunk.specs.declared.checker.Stage.TheVariants.{Front, Sizes}
 use Rattle.simple_chunk.proofs.SizeLemmas.{AreSizes-cut}
 
 -- the records `a`, `bc` and an empty one: their bytes are three
-records_of_three : records_from 0 (1 ∷ 3 ∷ 3 ∷ []) (0x61 ∷ 0x62 ∷ 0x63 ∷ []) ≡ (0x61 ∷ []) ∷ (0x62 ∷ 0x63 ∷ []) ∷ [] ∷ []
+records_of_three : parts_from {X = ℕ} 0 (1 ∷ 3 ∷ 3 ∷ []) (0x61 ∷ 0x62 ∷ 0x63 ∷ []) ≡ (0x61 ∷ []) ∷ (0x62 ∷ 0x63 ∷ []) ∷ [] ∷ []
 records_of_three = refl
+
+-- in a group of the first two, one of none, and the last one in no group
+groups_of_three : cut_at (2 ∷ 2 ∷ []) ((0x61 ∷ []) ∷ (0x62 ∷ 0x63 ∷ []) ∷ [] ∷ [])
+    ≡ value_of (((0x61 ∷ []) ∷ (0x62 ∷ 0x63 ∷ []) ∷ []) ∷ [] ∷ []) ([] ∷ [])
+groups_of_three = refl
 
 -- and they cost 27
 cost_of_three : cost_of ((0x61 ∷ []) ∷ (0x62 ∷ 0x63 ∷ []) ∷ [] ∷ []) ≡ 27

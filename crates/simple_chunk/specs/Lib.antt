@@ -2,6 +2,7 @@ pub mod Appends
 pub mod Costs
 pub mod Decoding
 pub mod Records
+pub mod RecordGroups
 pub mod Sizes
 pub mod SizesLeft
 pub mod Checkers

@@ -3,7 +3,7 @@ ghost use Rattle.chunk_header.specs.Kinds.{simple_kind};
 ghost use Rattle.chunk_header.specs.SimpleChunks.{IsSimple};
 ghost use Rattle.chunk_header.specs.Views.{value_of, value_of_chunk};
 ghost use Rattle.simple_chunk.specs.Decoding.{JudgesSimple, AreEndsOf};
-ghost use Rattle.simple_chunk.specs.Records.{records_from, AreHeldEnds};
+ghost use Rattle.simple_chunk.specs.Records.{parts_from, AreHeldEnds};
 ghost use Rattle.simple_chunk.specs.Sizes.{AreParts, AreSizes, IsSplit};
 
 use crate::record_list::{Records, to_u32};
@@ -77,7 +77,7 @@ fn find_records(
     ensures within { IfOk result (λ found. found.0 ≤ length bytes.now) }
     ensures ends { IfOk result (λ found. AreHeldEnds found.1.items (length (drop found.0 bytes.now))) }
     ensures holds { IfOk result (λ found.
-        IsSimple (value_of header.now bytes.now) (records_from 0 found.1.items (drop found.0 bytes.now))) }
+        IsSimple (value_of header.now bytes.now) (parts_from 0 found.1.items (drop found.0 bytes.now))) }
     ensures judged { JudgesSimple (value_of header.now bytes.now) result }
 {
     if is_compressed(bytes) {

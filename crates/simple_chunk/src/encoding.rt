@@ -1,4 +1,4 @@
-ghost use Rattle.std.specs.Prelude.{◌≡◌, ◌+◌, ◌^◌, ◌≤◌, length, vec_len, vec_capacity, IfOk};
+ghost use Rattle.std.specs.Prelude.{◌≡◌, ◌+◌, ◌^◌, ◌≤◌, ◌++◌, length, vec_len, vec_capacity, IfOk, OnOk};
 ghost use Rattle.varint_wire.specs.Varint.{shortest};
 ghost use Rattle.chunk_header.specs.SimpleChunks.{IsSimple, simple_chunk, simple_data, sizes_of};
 ghost use Rattle.chunk_header.specs.Views.{value_of_chunk, IsMadeChunk};
@@ -7,6 +7,7 @@ ghost use Rattle.simple_chunk.specs.Costs.{cost_of};
 ghost use Rattle.simple_chunk.specs.Sizes.{data_front};
 
 use crate::record_list::Records;
+use crate::records_ref::RecordsRef;
 use chunk_header::{Chunk, Kind};
 use record_values::Bytes;
 use std::alloc::{AllocError, Global};
@@ -23,7 +24,7 @@ pub fn encode(alloc: Global, records: &Records) -> Result<Chunk, AllocError>
     ensures made { IfOk result (IsMadeChunk (simple_chunk records.now)) }
     ensures holds { IfOk result (λ chunk. IsSimple (value_of_chunk chunk) records.now) }
 {
-    let data = encode_data(alloc, records)?;
+    let data = encode_data(alloc, &records.as_ref())?;
     let decoded_size = records.values().len() as u64;
     Ok(Chunk::new(
         Kind::Simple.byte(),
@@ -34,14 +35,14 @@ pub fn encode(alloc: Global, records: &Records) -> Result<Chunk, AllocError>
 }
 
 /// The data of that chunk.
-fn encode_data(alloc: Global, records: &Records) -> Result<Vec<u8>, AllocError>
+fn encode_data(alloc: Global, records: &RecordsRef<'_>) -> Result<Vec<u8>, AllocError>
     requires { cost_of records.now ≤ 2 ^ 25 }
     ensures { IfOk result (λ bytes. bytes.items ≡ simple_data records.now) }
 {
     let values = records.values();
     let sizes_len = sizes_len(records);
     let mut data = Vec::with_capacity(alloc, front_len(sizes_len) + values.len())?;
-    append_front(&mut data, records, sizes_len);
+    write_front(&mut data, records, sizes_len);
     append(&mut data, values);
     Ok(data)
 }
@@ -54,8 +55,19 @@ pub(crate) fn front_len(sizes_len: usize) -> usize
     1 + varint_len(sizes_len) + sizes_len
 }
 
+/// Appends what stands before the records in the data of that chunk.
+pub fn append_front(out: &mut Vec<u8>, records: &RecordsRef<'_>) -> Result<(), AllocError>
+    requires { cost_of records.now ≤ 2 ^ 25 }
+    ensures appends { OnOk result (out.new.items ≡ out.old.items ++ data_front records.now) }
+{
+    let sizes_len = sizes_len(records);
+    out.reserve(front_len(sizes_len))?;
+    write_front(out, records, sizes_len);
+    Ok(())
+}
+
 /// Appends what stands before the records, for which there is room.
-pub(crate) fn append_front(out: &mut Vec<u8>, records: &Records, sizes_len: usize)
+pub(crate) fn write_front(out: &mut Vec<u8>, records: &RecordsRef<'_>, sizes_len: usize)
     requires sizes { sizes_len ≡ length (sizes_of records.now) }
     requires room { vec_len out.old + (1 + length (shortest sizes_len) + sizes_len) ≤ vec_capacity out.old }
     ensures { Appends (data_front records.now) out.old.items out.new.items (vec_capacity out.old) (vec_capacity out.new) }
@@ -66,7 +78,7 @@ pub(crate) fn append_front(out: &mut Vec<u8>, records: &Records, sizes_len: usiz
 }
 
 /// How many bytes the sizes of the records take.
-pub(crate) fn sizes_len(records: &Records) -> usize
+pub(crate) fn sizes_len(records: &RecordsRef<'_>) -> usize
     requires { cost_of records.now ≤ 2 ^ 25 }
     ensures len { result ≡ length (sizes_of records.now) }
     ensures few { result ≤ 2 ^ 26 }
@@ -79,7 +91,7 @@ pub(crate) fn sizes_len(records: &Records) -> usize
 }
 
 /// Appends the sizes of the records, for which there is room.
-fn append_sizes(out: &mut Vec<u8>, records: &Records)
+fn append_sizes(out: &mut Vec<u8>, records: &RecordsRef<'_>)
     requires { vec_len out.old + length (sizes_of records.now) ≤ vec_capacity out.old }
     ensures { Appends (sizes_of records.now) out.old.items out.new.items (vec_capacity out.old) (vec_capacity out.new) }
 {

@@ -1,9 +1,10 @@
-ghost use Rattle.std.specs.Prelude.{◌≡◌, ◌↔◌, ◌+◌, ◌^◌, ◌<◌, ◌≤◌, Some, [], ◌∷◌, ◌++◌, length, slice_get, IsTrue, IfOk, OnOk, OnErr};
+ghost use Rattle.std.specs.Prelude.{◌≡◌, ◌↔◌, ◌+◌, ◌^◌, ◌<◌, ◌≤◌, Some, [], ◌∷◌, ◌++◌, length, slice_get, slice_range, IsTrue, IfOk, OnOk, OnErr};
 ghost use Rattle.std.specs.List.{AllByRecursion, concat};
 ghost use Rattle.record_values.specs.Bytes.{AreBytes};
 ghost use Rattle.simple_chunk.specs.Costs.{cost_of};
-ghost use Rattle.simple_chunk.specs.Records.{records_from, record_begin, AreHeldEnds};
+ghost use Rattle.simple_chunk.specs.Records.{parts_from, AreHeldEnds};
 
+use crate::records_ref::{RecordsRef, record_at};
 use record_values::Bytes;
 use std::alloc::{AllocError, Global};
 use std::marker::Model;
@@ -13,7 +14,7 @@ use std::mem;
 pub const RECORD_COST: u64 = 8;
 
 /// How many bytes the place takes where a record ends.
-const END_SIZE: u64 = 4;
+pub(crate) const END_SIZE: u64 = 4;
 
 /// Fewer bytes than these are copied: their room serves the next record then.
 const LEAST_MOVED: usize = 1 << 16;
@@ -29,11 +30,11 @@ pub struct Records {
 
 impl Model for Records {
     ghost use Rattle.std.specs.Prelude.{ℕ, List, length};
-    ghost use Rattle.simple_chunk.specs.Records.{records_from, AreHeldEnds};
+    ghost use Rattle.simple_chunk.specs.Records.{parts_from, AreHeldEnds};
 
     ghost Value = { List (List ℕ) };
 
-    ghost view = { λ r. records_from 0 r.ends.items r.values };
+    ghost view = { λ r. parts_from 0 r.ends.items r.values };
 
     ghost invariant = { λ r. AreHeldEnds r.ends.items (length r.values) };
 }
@@ -52,7 +53,7 @@ impl Records {
     /// The records that end at these places of the values.
     pub(crate) fn joined(values: Bytes, ends: Vec<u32>) -> Records
         requires { AreHeldEnds ends.items (length values) }
-        ensures { result ≡ records_from 0 ends.items values }
+        ensures { result ≡ parts_from 0 ends.items values }
     {
         Records { values, ends }
     }
@@ -121,9 +122,23 @@ impl Records {
         requires { i < length self.now }
         ensures { slice_get self.now i ≡ Some result.now }
     {
-        let begin = record_begin(&self.ends, i);
-        let end = self.ends[i] as usize;
-        &self.values.as_slice()[begin..end]
+        record_at(self.values.as_slice(), 0, &self.ends, i)
+    }
+
+    /// All records, where they lie.
+    pub fn as_ref(&self) -> RecordsRef<'_>
+        ensures { result ≡ self.now }
+    {
+        RecordsRef::all(self.values.as_slice(), &self.ends)
+    }
+
+    /// The records from one number to another, where they lie.
+    pub fn range(&self, from: usize, to: usize) -> RecordsRef<'_>
+        requires order { from ≤ to }
+        requires within { to ≤ length self.now }
+        ensures { result ≡ slice_range self.now from to }
+    {
+        RecordsRef::between(self.values.as_slice(), &self.ends, from, to)
     }
 
     /// All records joined.
@@ -144,16 +159,13 @@ impl Records {
     pub fn cost(&self) -> u64
         ensures { result ≡ cost_of self.now }
     {
-        self.values.as_slice().len() as u64 + RECORD_COST * self.ends.as_slice().len() as u64
+        self.as_ref().cost()
     }
-}
 
-/// Where the record of this number begins, from the places where the records end.
-fn record_begin(ends: &[u32], i: usize) -> usize
-    requires { i ≤ length ends.now }
-    ensures { result ≡ record_begin 0 ends.now i }
-{
-    if i == 0 { 0 } else { ends[i - 1] as usize }
+    /// How many bytes the records take, and the places where they end.
+    pub(crate) fn size(&self) -> u64 {
+        self.values.as_slice().len() as u64 + END_SIZE * self.ends.len() as u64
+    }
 }
 
 /// Where a record ends that comes behind these; want of memory where a list can't hold it.

@@ -3,7 +3,7 @@ ghost use Rattle.chunk_header.specs.SimpleChunks.{simple_chunk, simple_data};
 ghost use Rattle.chunk_header.specs.Views.{IsHeaderOf};
 ghost use Rattle.simple_chunk.specs.Costs.{cost_of};
 
-use crate::encoding::{append_front, front_len, sizes_len};
+use crate::encoding::{front_len, sizes_len, write_front};
 use crate::record_list::Records;
 use chunk_header::{Header, Kind};
 use std::alloc::{AllocError, Global};
@@ -43,7 +43,7 @@ impl SimpleChunk {
         requires { cost_of records ≤ 2 ^ 25 }
         ensures { IfOk result (λ chunk. chunk ≡ record { records = records; encoded = false }) }
     {
-        let sizes_len = sizes_len(&records);
+        let sizes_len = sizes_len(&records.as_ref());
         let front = Vec::with_capacity(alloc, front_len(sizes_len))?;
         Ok(SimpleChunk {
             records,
@@ -61,7 +61,7 @@ impl SimpleChunk {
         ensures kept { OnErr result (self.new ≡ self.old) }
         ensures records_kept { OnErr result (records.new ≡ records.old) }
     {
-        let sizes_len = sizes_len(records);
+        let sizes_len = sizes_len(&records.as_ref());
         let missing = front_len(sizes_len).saturating_sub(self.front.len());
         self.front.reserve(missing)?;
         mem::swap(&mut self.records, records);
@@ -78,7 +78,7 @@ impl SimpleChunk {
             return;
         }
         self.front.clear();
-        append_front(&mut self.front, &self.records, self.sizes_len);
+        write_front(&mut self.front, &self.records.as_ref(), self.sizes_len);
         let values = self.records.values();
         self.header = Some(Header::of_parts(
             Kind::Simple.byte(),

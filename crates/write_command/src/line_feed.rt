@@ -10,7 +10,7 @@ ghost use Rattle.hex.specs.declared.error.FromHexError.{FromHexError};
 
 use crate::held_input::HeldInput;
 use hex::FromHexError;
-use record_group::Grouper;
+use record_group::GroupBuffer;
 use record_io::{Bytes, Failed, Source};
 use record_writer::{FeedEnd, RecordFeed, Stop};
 use std::alloc::{AllocError, Global};
@@ -239,14 +239,14 @@ impl<'a, I: Source> RecordFeed for LineFeed<'a, I> {
         Ok(true)
     }
 
-    fn push_held(&mut self, grouper: &mut Grouper) -> Result<bool, AllocError> {
+    fn push_held(&mut self, into: &mut GroupBuffer) -> Result<bool, AllocError> {
         if self.hex || self.asked == 0 {
             return Ok(false);
         }
         let Some(len) = self.line_end() else {
             return Ok(false);
         };
-        if !grouper.push_open(&self.held.as_slice()[..len])? {
+        if !into.push_open(&self.held.as_slice()[..len])? {
             return Ok(false);
         }
         self.held.skip_line(len);

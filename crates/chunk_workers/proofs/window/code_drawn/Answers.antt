@@ -1,10 +1,8 @@
-use Rattle.std.proofs.Common.{rules, ◌≡◌, ◌∙◌, ℕ, ◌+◌, [], ◌∷◌, ◌++◌, List, All, ap, refl, length, ◌<◌, subst, sym, arith}
-use Rattle.std.proofs.lemmas.List.Elements.{All-push}
-use Rattle.std.proofs.lemmas.List.{map-append}
-use Rattle.std.proofs.lemmas.Option.{slice_get_read}
-use Rattle.chunk_workers.specs.declared.numbered.Numbered.{Numbered}
+use Rattle.std.proofs.Common.{◌≡◌, ◌∙◌, ℕ, ◌+◌, List, [], ◌∷◌, ◌++◌, ap, sym, subst, arith}
+use Rattle.std.proofs.lemmas.List.{flat_map_more}
+use Rattle.chunk_workers.specs.Coded.{AreCoded}
+use Rattle.chunk_workers.specs.Runs.{groups_of_runs, run_of}
 use Rattle.chunk_workers.specs.Seats.{numbers_at}
-use Rattle.chunk_workers.specs.Windows.{IsChunkOfGroup, numbers_of}
 use Rattle.chunk_workers.proofs.Ones.{one_more}
 use Rattle.chunk_workers.proofs.Rising.{bound_of, bound_of-le, bound_of-push}
 use Rattle.chunk_workers.proofs.window.code_drawn.Goals as goal
@@ -19,19 +17,16 @@ loop-number-smaller g c =
 
 pub loop-number-preserved : goal.loop-number-preserved
 loop-number-preserved g c =
-    let P : Numbered → Type 0 = IsChunkOfGroup (g.C.Coder.chunk_of c.args.coder.now) c.args.groups.now in
     let h = c.loop-number.invariant in
-    let one : Numbered = record { number = c.in-Some.number; chunk = c.in_ok-chunk.chunk } in
-    let pushed : c.push.new.self.items ≡ c.loop-number.coded.items ++ one ∷ [] = search rules in
-    let within : c.in-Some.number < length c.args.groups.now = omega (arith, c.in-Some.ensures.some.0, c.requires.n) in
-    let stands = slice_get_read c.args.groups.now (length c.args.groups.now) c.in-Some.number c.index-groups-number.result refl within c.index-groups-number.is in
-    let of_group : P one = record { group = _; stands = stands; value = c.in_ok-chunk.ensures.value; right = c.in_ok-chunk.ensures.right } in
+    let some = c.in-Some.ensures.some in
+    let number = c.in-Some.number in
+    let groups = c.args.groups.now.groups in
+    let pushed : c.push.new.self.items ≡ c.loop-number.numbers.items ++ number ∷ [] = c.in_ok-push.ensures.items in
     record {
       belongs = c.in-Some.ensures.belongs;
-      numbers =
-          ap numbers_of pushed
-          ∙ map-append (λ (c : Numbered). c.number) c.loop-number.coded.items (one ∷ [])
-          ∙ ap (λ (ns : List ℕ). ns ++ c.in-Some.number ∷ []) h.numbers
-          ∙ sym (one_more c.loop-number.seat c.in-Some.number c.draw.new.seat c.in-Some.ensures.some.1);
-      chunks = subst (All P) (sym pushed) (All-push P c.loop-number.coded.items one h.chunks of_group);
+      numbers = pushed ∙ ap (λ (ns : List ℕ). ns ++ number ∷ []) h.numbers ∙ sym (one_more c.loop-number.seat number c.draw.new.seat some.1);
+      coded =
+          subst (λ gs. AreCoded (g.C.Coder.chunk_of c.args.coder.now) gs c.code_run.new.chunks)
+          (flat_map_more (run_of c.args.step groups) [] c.loop-number.numbers.items number ∙ ap (groups_of_runs c.args.step groups) (sym pushed))
+          (c.in_ok-code_run.ensures (groups_of_runs c.args.step groups c.loop-number.numbers.items) h.coded);
     }

@@ -1,5 +1,5 @@
 use Rattle.std.proofs.Common.{◌≡◌, All, Some, length, vec_len}
-use Rattle.record_io.specs.Memory.{told_if}
+use Rattle.scripted_io.specs.Memory.{told_if}
 use Rattle.layer_tests.specs.declared.meeting_stores.MeetingStore.{MeetingStore}
 use Rattle.layer_tests.proofs.meeting_stores.meeting_stores.Given as goal
 

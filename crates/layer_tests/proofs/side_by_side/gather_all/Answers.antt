@@ -1,7 +1,7 @@
 use Rattle.std.proofs.Common.{◌∙◌, ℕ, ◌^◌, ◌≤◌, length, subst, sym}
 use Rattle.std.proofs.lemmas.List.Elements.{All-replicate, recursion_from_All}
 use Rattle.std.specs.List.{AllByRecursion}
-use Rattle.record_io.specs.Memory.{told_if}
+use Rattle.scripted_io.specs.Memory.{told_if}
 use Rattle.layer_tests.specs.declared.meeting_stores.MeetingStore.{MeetingStore}
 use Rattle.layer_tests.proofs.ToldSizes.{all_told}
 use Rattle.layer_tests.proofs.side_by_side.gather_all.Goals as goal

@@ -1,4 +1,5 @@
-use Rattle.ordered_writer.proofs.ByNumber.{can_hold_window, come-contained, come-right, come-values, each_from_zero, with_each-room, with_each-wanted}
+use Rattle.chunk_header.specs.Views.{HasRightHash, value_of_chunk}
+use Rattle.ordered_writer.proofs.ByNumber.{can_hold_window, come-all, come-contained, come-values, each_from_zero, with_each-room, with_each-wanted}
 use Rattle.ordered_writer.proofs.laws.chunks_come_by_number.Goals as goal
 
 pub returns-clause-can_hold : goal.returns-clause-can_hold
@@ -17,10 +18,10 @@ pub returns-clause-each : goal.returns-clause-each
 returns-clause-each c = λ r count chunks none room numbers. (come-contained r count chunks (none, room, numbers)).1
 
 pub returns-clause-values : goal.returns-clause-values
-returns-clause-values c = λ r count chunks value none room numbers known. come-values r count chunks value (none, room, numbers) known
+returns-clause-values c = λ r count chunks value none room numbers known. come-values value_of_chunk r count chunks value (none, room, numbers) known
 
 pub returns-clause-right : goal.returns-clause-right
-returns-clause-right c = λ r count chunks none room numbers known. come-right r count chunks (none, room, numbers) known
+returns-clause-right c = λ r count chunks none room numbers known. come-all HasRightHash r count chunks (none, room, numbers) known
 
 pub returns-clause-from_zero : goal.returns-clause-from_zero
 returns-clause-from_zero c = each_from_zero

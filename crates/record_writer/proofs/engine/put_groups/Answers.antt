@@ -25,7 +25,7 @@ loop-part-init g c = record {
 pub go_on-requires-clause-may_lay : goal.go_on-requires-clause-may_lay
 go_on-requires-clause-may_lay g c κs within =
     let before = c.loop-part.invariant.laid in
-    let held = g.W.Window.groups c.loop-part.pipeline.next ++ g.W.Window.groups c.loop-part.pipeline.coming.taken in
+    let held = c.loop-part.pipeline.next.groups ++ c.loop-part.pipeline.coming.taken.groups in
     let near : end_of_chunks c.loop-part.file.place (chunks_of_groups held) ≤ 2 ^ 61 =
     reach_of-window c.args.file.now.place c.loop-part.file.place before.0 held c.loop-part.pipeline.coming.taker (g.L.RecordFeed.bound c.loop-part.feed) (2 ^ 61)
     before.1.place (omega (arith, before.2.in_reach c.args.file.now.place, c.requires.in_reach)) in
@@ -33,15 +33,15 @@ go_on-requires-clause-may_lay g c κs within =
       going = before.1.going;
       in_reach = omega (
         arith,
-        within-before c.loop-part.file.place (2 ^ 61) (g.W.Window.groups c.loop-part.pipeline.next) (g.W.Window.groups c.loop-part.pipeline.coming.taken) near,
+        within-before c.loop-part.file.place (2 ^ 61) (c.loop-part.pipeline.next.groups) (c.loop-part.pipeline.coming.taken.groups) near,
       );
     }
 
 pub returns-in_err-part-in-Ok-Window-clause-put : goal.returns-in_err-part-in-Ok-Window-clause-put
 returns-in_err-part-in-Ok-Window-clause-put g c =
     let before = c.loop-part.invariant.laid in
-    let first = g.W.Window.groups c.loop-part.pipeline.next in
-    let taken = g.W.Window.groups c.loop-part.pipeline.coming.taken in
+    let first = c.loop-part.pipeline.next.groups in
+    let taken = c.loop-part.pipeline.coming.taken.groups in
     let p = err_from_is_err_and c.from_residual.result c.from_residual.ensures.1 in
     rw (p.1, p.2)
     (record {
@@ -59,8 +59,8 @@ returns-in_err-part-in-Ok-Window-clause-put g c =
 pub loop-part-preserved : goal.loop-part-preserved
 loop-part-preserved g c =
     let before = c.loop-part.invariant.laid in
-    let first = g.W.Window.groups c.loop-part.pipeline.next in
-    let taken = g.W.Window.groups c.loop-part.pipeline.coming.taken in
+    let first = c.loop-part.pipeline.next.groups in
+    let taken = c.loop-part.pipeline.coming.taken.groups in
     let next = c.in_ok-part-in-Ok-Window.ensures.taken in
     let more : c.loop-part.part ≡ Ok Window = search rules in
     record {
@@ -69,7 +69,7 @@ loop-part-preserved g c =
         Lays-all _ _ _ _ c.loop-part.file c.go_on.new.file (before.0 ++ first) before.0 first refl before.1 c.in_ok-part-in-Ok-Window.ensures.laid.whole,
         TakesGroups-moved _ _ g.L.RecordFeed.rest g.L.RecordFeed.bound g.L.RecordFeed.going g.L.RecordFeed.origin g.L.RecordFeed.faults
             c.args.feed.now c.loop-part.feed c.go_on.new.feed c.args.pipeline.now.coming.taker c.loop-part.pipeline.coming.taker c.go_on.new.self.coming.taker
-            before.0 first taken next.0 (g.W.Window.groups c.go_on.new.self.next ++ g.W.Window.groups c.go_on.new.self.coming.taken)
+            before.0 first taken next.0 (c.go_on.new.self.next.groups ++ c.go_on.new.self.coming.taken.groups)
             c.in_ok-part-in-Ok-Window.part next.1
             (subst (λ (t : Result FeedPart CutOff). TakesGroups g.L.RecordFeed.rest g.L.RecordFeed.bound g.L.RecordFeed.going g.L.RecordFeed.origin
             g.L.RecordFeed.faults c.args.feed.now c.loop-part.feed c.args.pipeline.now.coming.taker c.loop-part.pipeline.coming.taker
@@ -83,7 +83,7 @@ loop-part-preserved g c =
 pub finish-requires-clause-may_lay : goal.finish-requires-clause-may_lay
 finish-requires-clause-may_lay g c κs within =
     let before = c.loop-part.invariant.laid in
-    let held = g.W.Window.groups c.loop-part.pipeline.next ++ g.W.Window.groups c.loop-part.pipeline.coming.taken in
+    let held = c.loop-part.pipeline.next.groups ++ c.loop-part.pipeline.coming.taken.groups in
     let near : end_of_chunks c.loop-part.file.place (chunks_of_groups held) ≤ 2 ^ 61 =
     reach_of-window c.args.file.now.place c.loop-part.file.place before.0 held c.loop-part.pipeline.coming.taker (g.L.RecordFeed.bound c.loop-part.feed) (2 ^ 61)
     before.1.place (omega (arith, before.2.in_reach c.args.file.now.place, c.requires.in_reach)) in
@@ -92,7 +92,7 @@ finish-requires-clause-may_lay g c κs within =
 pub returns-in_err-finish-clause-put : goal.returns-in_err-finish-clause-put
 returns-in_err-finish-clause-put g c =
     let before = c.loop-part.invariant.laid in
-    let held = g.W.Window.groups c.loop-part.pipeline.next ++ g.W.Window.groups c.loop-part.pipeline.coming.taken in
+    let held = c.loop-part.pipeline.next.groups ++ c.loop-part.pipeline.coming.taken.groups in
     let p = err_from_is_err_and c.from_residual-in_err-finish.result c.from_residual-in_err-finish.ensures.1 in
     rw (p.1, p.2)
     (record {
@@ -109,7 +109,7 @@ returns-in_err-finish-clause-put g c =
 pub returns-clause-put : goal.returns-clause-put
 returns-clause-put g c =
     let before = c.loop-part.invariant.laid in
-    let held = g.W.Window.groups c.loop-part.pipeline.next ++ g.W.Window.groups c.loop-part.pipeline.coming.taken in
+    let held = c.loop-part.pipeline.next.groups ++ c.loop-part.pipeline.coming.taken.groups in
     let laid = Lays-all _ _ _ c.args.file.now c.loop-part.file c.finish.new.file (before.0 ++ held) before.0 held refl before.1 c.in_ok-finish.ensures.laid.whole in
     let done : c.match-part.end ≢ Err Made =
     elim c.match-part.branch [
@@ -143,7 +143,7 @@ returns-clause-put g c =
 pub returns-clause-place : goal.returns-clause-place
 returns-clause-place g c =
     let before = c.loop-part.invariant.laid in
-    let held = g.W.Window.groups c.loop-part.pipeline.next ++ g.W.Window.groups c.loop-part.pipeline.coming.taken in
+    let held = c.loop-part.pipeline.next.groups ++ c.loop-part.pipeline.coming.taken.groups in
     let near : end_of_chunks c.loop-part.file.place (chunks_of_groups held) ≤ 2 ^ 61 =
     reach_of-window c.args.file.now.place c.loop-part.file.place before.0 held c.loop-part.pipeline.coming.taker (g.L.RecordFeed.bound c.loop-part.feed) (2 ^ 61)
     before.1.place (omega (arith, before.2.in_reach c.args.file.now.place, c.requires.in_reach)) in

@@ -11,8 +11,8 @@ invariant-loop-part g l = record {
       × Lays (g.M.Sink.taken l.fn.made) (g.M.Sink.taken l.made) l.fn.file l.file (chunks_of_groups given)
       × TakesGroups g.L.RecordFeed.rest g.L.RecordFeed.bound g.L.RecordFeed.going g.L.RecordFeed.origin g.L.RecordFeed.faults
       l.fn.feed l.feed l.fn.pipeline.coming.taker l.pipeline.coming.taker
-      (given ++ (g.W.Window.groups l.pipeline.next ++ g.W.Window.groups l.pipeline.coming.taken)) l.part;
-  windows : StandInOrder g.W.Window.groups g.W.Window.ready l.pipeline.next l.pipeline.coming.free;
+      (given ++ (l.pipeline.next.groups ++ l.pipeline.coming.taken.groups)) l.part;
+  windows : StandInOrder l.pipeline.next l.pipeline.coming.free;
   made : OnlyCounts g.M.Sink.lent g.M.Sink.faults ⊥ l.fn.made l.made;
 }
 

@@ -1,6 +1,6 @@
 use Rattle.std.proofs.Common.{◌≡◌, ◌+◌, ◌-◌, ◌^◌, ◌≤◌, false, length}
 use Rattle.record_io.specs.Calls.{OnlyCounts}
-use Rattle.simple_chunk.specs.Records.{records_from}
+use Rattle.simple_chunk.specs.Records.{parts_from}
 use Rattle.record_group.specs.Groupings.{groups_from}
 use Rattle.record_writer.specs.MadeFiles.{reach_of}
 use Rattle.riegeli_c.specs.Writes.{AreCuts, records_cut}
@@ -10,7 +10,7 @@ use Rattle.riegeli_c.proofs.laying.lay_closed.Given as goal
 abbrev pub invariant-loop-end : goal.invariant-loop-end
 invariant-loop-end g l = record {
   closed : AreClosed (g.M.Sink.taken l.fn.made) (g.M.Sink.taken l.made) l.fn.writer l.writer
-      (groups_from l.fn.grouper (records_cut l.fn.values l.fn.ends)) l.grouper (records_from l.begin l.rest l.fn.values);
+      (groups_from l.fn.grouper (records_cut l.fn.values l.fn.ends)) l.grouper (parts_from l.begin l.rest l.fn.values);
   going : l.writer.spent ≡ false;
   cuts : AreCuts l.begin l.rest (length l.fn.values);
   within : l.begin ≤ length l.fn.values;

@@ -6,7 +6,7 @@ use Rattle.record_io.specs.Outside.{TakesShort}
 use Rattle.chunk_header.specs.Chunks.{ChunkValue}
 use Rattle.chunk_header.specs.SimpleChunks.{simple_chunk}
 use Rattle.meta_chunk.specs.Files.{laid_each}
-use Rattle.simple_chunk.proofs.RecordLists.{length-records_from}
+use Rattle.simple_chunk.proofs.Parts.{length-parts_from}
 use Rattle.record_group.specs.Groups.{groups}
 use Rattle.record_group.specs.Groupings.{groups_from}
 use Rattle.record_writer.specs.MadeFiles.{chunks_of_groups}
@@ -87,7 +87,7 @@ returns-in_default-clause-held g c =
     omega (
       arith,
       count-none c.args.last rs c.args.grouper.size c.args.grouper.every (rw c.in_default.is at (open_behind g s)),
-      length-records_from 0 c.args.ends.now c.args.values.now,
+      length-parts_from 0 c.args.ends.now c.args.values.now,
     )
 
 pub returns-then-not-last-clause-laid : goal.returns-then-not-last-clause-laid
@@ -112,7 +112,7 @@ returns-then-not-last-clause-held g c =
       arith,
       c.len.ensures,
       count-held rs c.in-Some.group c.args.grouper.size c.args.grouper.every (rw c.in-Some.is at (open_behind g s)),
-      length-records_from 0 c.args.ends.now c.args.values.now,
+      length-parts_from 0 c.args.ends.now c.args.values.now,
     ))
 
 pub lay_group-requires-clause-may_reach : goal.lay_group-requires-clause-may_reach
@@ -158,7 +158,7 @@ returns-clause-held g c =
     let rs = records_cut c.args.values.now c.args.ends.now in
     let all : c.args.last ≡ true = search rules in
     subst (λ (last : Bool). 0 + length (records_laid rs c.args.grouper.size c.args.grouper.every last) ≡ length c.args.ends.now) (sym all)
-    (omega (arith, ap length (laid-all rs c.args.grouper.size c.args.grouper.every), length-records_from 0 c.args.ends.now c.args.values.now))
+    (omega (arith, ap length (laid-all rs c.args.grouper.size c.args.grouper.every), length-parts_from 0 c.args.ends.now c.args.values.now))
 
 pub returns-clause-in_reach : goal.returns-clause-in_reach
 returns-clause-in_reach g c =

@@ -5,12 +5,12 @@ use Rattle.record_io.proofs.Calls.{OnErr-any}
 use Rattle.show_command.proofs.LinePuts.{lines-next, lines-failed, page-put, page-failed}
 use Rattle.show_command.proofs.plain_lines.put_plain.Goals as goal
 
-pub returns-in_err-put : goal.returns-in_err-put
-returns-in_err-put g c = record {
+pub returns-in_err-put_straight : goal.returns-in_err-put_straight
+returns-in_err-put_straight g c = record {
   out = record {
     whole = search rules;
     front = OnErr-any _ (page-failed line _ _ _ c.args.lines.now _ _ c.args.records.now c.loop-number.number c.lay_lines-next.result.0
-        c.lay_lines-next.ensures.laid c.loop-number.invariant.whole c.in_err-put.ensures.sink.front);
+        c.lay_lines-next.ensures.laid c.loop-number.invariant.whole c.in_err-put_straight.ensures.sink.front);
     emptied = search rules;
     counts = search rules;
   };
@@ -20,7 +20,7 @@ pub loop-number-preserved-then-number-next : goal.loop-number-preserved-then-num
 loop-number-preserved-then-number-next g c = record {
   within = c.lay_lines-next.ensures.within;
   whole = page-put line _ _ _ c.args.lines.now _ _ c.args.records.now c.loop-number.number c.lay_lines-next.result.0
-      c.lay_lines-next.ensures.laid c.loop-number.invariant.whole _ c.in_ok-put.ensures.sink.whole;
+      c.lay_lines-next.ensures.laid c.loop-number.invariant.whole _ c.in_ok-put_straight.ensures.sink.whole;
   counts = search rules;
 }
 

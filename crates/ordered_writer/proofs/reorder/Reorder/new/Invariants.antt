@@ -3,7 +3,7 @@ use Rattle.std.specs.Vec.{vec_capacity}
 use Rattle.ordered_writer.proofs.reorder.Reorder.new.Given as goal
 
 abbrev pub invariant-loop : goal.invariant-loop
-invariant-loop l = record {
+invariant-loop g l = record {
   slots : l.slots.items ≡ replicate l.counter None;
   counted : vec_len l.slots ≡ l.counter;
   room : vec_capacity l.slots ≡ l.room;

@@ -3,7 +3,6 @@ use Rattle.std.proofs.lemmas.Bool.{cases_eq}
 use Rattle.std.proofs.lemmas.Result.{on_ok_weaker}
 use Rattle.block_layout.specs.Layout.{IsBlock, chunk_end_of}
 use Rattle.record_io.proofs.Buffered.{TakesAndHolds-none}
-use Rattle.chunk_header.specs.Views.{bytes_of_header}
 use Rattle.meta_chunk.specs.Laid.{laid_bytes}
 use Rattle.meta_chunk.specs.Files.{laid_each}
 use Rattle.meta_chunk.specs.PaddingSizes.{padding_size_of, padding_at}
@@ -47,24 +46,13 @@ is_inside g c =
 size_is : (g : _) (c : After-padding_header g) → c.in-Some.size ≡ padding_size_of c.args.self.now.position
 size_is g c = c.in-Some.ensures.size ∙ ap (λ (w : Writer). padding_size_of w.position) c.self.view_is
 
--- it ends where the padding does
-end_is : (g : _) (c : After-padding_header g)
-    → chunk_end_of c.args.self.now.position (40 + c.padding_header.result.data_size) c.padding_header.result.num_records
-    ≡ chunk_end_of c.args.self.now.position (40 + c.in-Some.size) 0
-end_is g c =
-    ap (λ (n : ℕ). chunk_end_of c.args.self.now.position (40 + n) c.padding_header.result.num_records) c.padding_header.ensures.size
-    ∙ ap (chunk_end_of c.args.self.now.position (40 + c.in-Some.size)) c.padding_header.ensures.no_records
-
--- and its bytes are those of the padding
+-- the bytes of the chunk are those of the padding
 bytes_are : (g : _) (c : After-padding_header g)
-    → laid_bytes c.args.self.now.position
-    (chunk_end_of c.args.self.now.position (40 + c.padding_header.result.data_size) c.padding_header.result.num_records)
-    (bytes_of_header c.padding_header.result ++ [])
+    → laid_bytes c.args.self.now.position (chunk_end_of c.args.self.now.position (40 + c.in-Some.size) 0) (c.padding_header.result ++ [])
     ≡ laid_each c.args.self.now.position (padding_at c.args.self.now.position)
 bytes_are g c =
-    ap (λ (end : ℕ). laid_bytes c.args.self.now.position end (bytes_of_header c.padding_header.result ++ [])) (end_is g c)
-    ∙ ap (λ (header : List ℕ). laid_bytes c.args.self.now.position (chunk_end_of c.args.self.now.position (40 + c.in-Some.size) 0) (header ++ []))
-    c.padding_header.ensures.bytes
+    ap (λ (header : List ℕ). laid_bytes c.args.self.now.position (chunk_end_of c.args.self.now.position (40 + c.in-Some.size) 0) (header ++ []))
+    c.padding_header.ensures
     ∙ sym (laid_padding-inside c.args.self.now.position c.in-Some.size (is_inside g c) (size_is g c))
 
 pub lay-requires : goal.lay-requires
@@ -75,7 +63,7 @@ lay-requires g c =
         record {
           unspent = c.requires.may_reach.unspent;
           in_reach =
-              omega (arith, end_is g k, end_of_padding_near c.args.self.now.position c.in-Some.size (is_inside g k) (size_is g k) c.requires.may_reach.in_reach);
+              omega (arith, end_of_padding_near c.args.self.now.position c.in-Some.size (is_inside g k) (size_is g k) c.requires.may_reach.in_reach);
         },
         omega arith,
       ),
@@ -86,7 +74,7 @@ returns-clause-goes_on g c =
     let k = (goal.at.returns-clause-goes_on g c).After-padding_header in
     record {
       moved = on_ok_weaker c.lay.result
-          (λ moved. moved ∙ ap writer_at (end_is g k ∙ sym (end_of_padding-inside c.args.self.now.position c.in-Some.size (is_inside g k) (size_is g k))))
+          (λ moved. moved ∙ ap writer_at (sym (end_of_padding-inside c.args.self.now.position c.in-Some.size (is_inside g k) (size_is g k))))
           c.lay.ensures.goes_on.moved;
       spent = c.lay.ensures.goes_on.spent;
     }

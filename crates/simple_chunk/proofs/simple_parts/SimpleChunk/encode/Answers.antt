@@ -11,8 +11,8 @@ pub invariant_of-self : goal.invariant_of-self
 invariant_of-self c =
     let records = c.self.inside.records in
     let (room, _) = c.self.invariant in
-    let front = c.append_front.ensures.items ∙ ap (λ (items : List ℕ). items ++ data_front records) c.clear.ensures.items in (
-      record { few = room.few; sized = room.sized; room = omega (arith, room.room, c.clear.ensures.capacity, c.append_front.ensures.room) },
+    let front = rw c.as_ref.ensures at c.write_front.ensures.items ∙ ap (λ (items : List ℕ). items ++ data_front records) c.clear.ensures.items in (
+      record { few = room.few; sized = room.sized; room = omega (arith, room.room, c.clear.ensures.capacity, c.write_front.ensures.room) },
       (
         IsHeaderOf-simple_chunk records c.of_parts.result c.len.result (length c.values-values.result.now) c.deref.result.now c.values-values.result.now
             (rw c.byte.ensures at c.of_parts.ensures) c.len.ensures (ap length c.values-values.ensures.value) (c.deref.ensures.value ∙ front) c.values-values.ensures.value,
