@@ -8,16 +8,16 @@ use Rattle.chunk_header.specs.Chunks.{ChunkValue, header_bytes}
 use Rattle.chunk_header.specs.SimpleChunks.{simple_data}
 use Rattle.simple_chunk.specs.Sizes.{data_front}
 use Rattle.chunk_workers.specs.Coded.{AreCoded, CodedValue, IsCodedAfter, IsCodedAt, StandsFor, coded_of}
-use Rattle.chunk_workers.specs.declared.coded_chunks.Head.{Head}
+use Rattle.chunk_workers.specs.declared.coded_chunks.CodedHead.{CodedHead}
 
 -- a chunk for each head
-pub length-coded_of : (heads : List Head) (fronts : List (List ℕ)) → length heads ≡ length fronts → length (coded_of heads fronts) ≡ length heads
+pub length-coded_of : (heads : List CodedHead) (fronts : List (List ℕ)) → length heads ≡ length fronts → length (coded_of heads fronts) ≡ length heads
 length-coded_of [] fronts same = refl
 length-coded_of (head ∷ heads) [] same = absurd (omega (arith, same))
 length-coded_of (head ∷ heads) (front ∷ fronts) same = ap suc (length-coded_of heads fronts (omega (arith, same)))
 
 -- one more of both is one more chunk
-pub coded_of-push : (heads : List Head) (fronts : List (List ℕ)) (head : Head) (front : List ℕ) → length heads ≡ length fronts
+pub coded_of-push : (heads : List CodedHead) (fronts : List (List ℕ)) (head : CodedHead) (front : List ℕ) → length heads ≡ length fronts
     → coded_of (heads ++ head ∷ []) (fronts ++ front ∷ []) ≡ coded_of heads fronts ++ record { head = head; front = front } ∷ []
 coded_of-push [] [] head front same = refl
 coded_of-push [] (f ∷ fronts) head front same = absurd (omega (arith, same))
@@ -26,12 +26,12 @@ coded_of-push (h ∷ heads) (f ∷ fronts) head front same =
     ap (λ (cs : List CodedValue). record { head = h; front = f } ∷ cs) (coded_of-push heads fronts head front (omega (arith, same)))
 
 -- a chunk is its head and its front
-pub coded_of-at : (heads : List Head) (fronts : List (List ℕ)) (i : ℕ) (head : Head) (front : List ℕ) → slice_get heads i ≡ Some head → slice_get fronts i ≡ Some front
+pub coded_of-at : (heads : List CodedHead) (fronts : List (List ℕ)) (i : ℕ) (head : CodedHead) (front : List ℕ) → slice_get heads i ≡ Some head → slice_get fronts i ≡ Some front
     → slice_get (coded_of heads fronts) i ≡ Some (record { head = head; front = front })
 coded_of-at [] fronts i head front first second = absurd (none-some head first)
 coded_of-at (h ∷ heads) [] i head front first second = absurd (none-some front second)
 coded_of-at (h ∷ heads) (f ∷ fronts) zero head front first second =
-    ap (λ (x : Head). let c : CodedValue = record { head = x; front = f } in Some c) (same_Some h head first)
+    ap (λ (x : CodedHead). let c : CodedValue = record { head = x; front = f } in Some c) (same_Some h head first)
     ∙ ap (λ (x : List ℕ). let c : CodedValue = record { head = head; front = x } in Some c) (same_Some f front second)
 coded_of-at (h ∷ heads) (f ∷ fronts) (suc i) head front first second = coded_of-at heads fronts i head front first second
 
@@ -82,7 +82,7 @@ AreCoded-at chunk_of (g ∷ groups) (c ∷ chunks) (suc i) group are is =
     record { coded = rest.coded; at = rest.at; stands = rest.stands }
 
 -- where a head has the bytes of a chunk's header, and its front with the values is that chunk's data, it was appended
-pub coded_after : (chunk_of : List (List ℕ) → ChunkValue) (group : List (List ℕ)) (heads more_heads : List Head) (fronts more_fronts : List (List ℕ)) (head : Head) (front : List ℕ)
+pub coded_after : (chunk_of : List (List ℕ) → ChunkValue) (group : List (List ℕ)) (heads more_heads : List CodedHead) (fronts more_fronts : List (List ℕ)) (head : CodedHead) (front : List ℕ)
     → length heads ≡ length fronts → more_heads ≡ heads ++ head ∷ [] → more_fronts ≡ fronts ++ front ∷ []
     → head.header ≡ header_bytes (chunk_of group) → head.num_records ≡ (chunk_of group).num_records
     → front ++ (if head.takes_values then concat group else []) ≡ (chunk_of group).«data»

@@ -6,7 +6,7 @@ use Rattle.std.proofs.lemmas.List.{drop-drop, map-append}
 use Rattle.number_shares.proofs.Lists.{all_append}
 use Rattle.chunk_header.specs.Chunks.{ChunkValue}
 use Rattle.chunk_workers.specs.Coded.{AreCoded, CodedValue, IsCodedAt}
-use Rattle.chunk_workers.specs.RunPlaces.{IsPlaceOf, places_from, places_in, places_of}
+use Rattle.chunk_workers.specs.RunPlaces.{IsRunPlace, places_from, places_in, places_of}
 use Rattle.chunk_workers.specs.Runs.{RunsValue, groups_of_runs, run_of}
 use Rattle.chunk_workers.specs.declared.places.RunPlace.{RunPlace}
 use Rattle.chunk_workers.proofs.CodedLists.{AreCoded-at, AreCoded-back}
@@ -36,7 +36,7 @@ placed_at chunk_of group chunks first j is = record { coded = is.coded; at = sli
 -- the places of one worker's runs, from a chunk on
 places_in-placed : (chunk_of : List (List ℕ) → ChunkValue) (step : ℕ) (groups : List (List (List ℕ))) (workers : List RunsValue) (worker : ℕ) (r : RunsValue) (first : ℕ) (numbers : List ℕ)
     → slice_get workers worker ≡ Some r → AreCoded chunk_of (groups_of_runs step groups numbers) (drop first r.chunks)
-    → AllByRecursion (λ (p : ℕ × RunPlace). IsPlaceOf chunk_of step groups workers p.0 p.1) (places_in step (length groups) worker first numbers)
+    → AllByRecursion (λ (p : ℕ × RunPlace). IsRunPlace chunk_of step groups workers p.0 p.1) (places_in step (length groups) worker first numbers)
 places_in-placed chunk_of step groups workers worker r first [] own are = tt
 places_in-placed chunk_of step groups workers worker r first (number ∷ numbers) own are =
     let run = run_of step groups number in
@@ -58,11 +58,11 @@ places_in-placed chunk_of step groups workers worker r first (number ∷ numbers
 places_from-placed : (chunk_of : List (List ℕ) → ChunkValue) (step : ℕ) (groups : List (List (List ℕ))) (workers : List RunsValue) (worker : ℕ) (runs : List RunsValue)
     → ((i : ℕ) (r : RunsValue) → slice_get runs i ≡ Some r → slice_get workers (worker + i) ≡ Some r)
     → All (λ (r : RunsValue). AreCoded chunk_of (groups_of_runs step groups r.numbers) r.chunks) runs
-    → AllByRecursion (λ (p : ℕ × RunPlace). IsPlaceOf chunk_of step groups workers p.0 p.1) (places_from step (length groups) worker runs)
+    → AllByRecursion (λ (p : ℕ × RunPlace). IsRunPlace chunk_of step groups workers p.0 p.1) (places_from step (length groups) worker runs)
 places_from-placed chunk_of step groups workers worker [] own are = tt
 places_from-placed chunk_of step groups workers worker (r ∷ runs) own are =
     let here : slice_get workers worker ≡ Some r = ap (slice_get workers) (omega arith) ∙ own 0 r refl in
-    all_append (λ (p : ℕ × RunPlace). IsPlaceOf chunk_of step groups workers p.0 p.1) (places_in step (length groups) worker 0 r.numbers) (places_from step (length groups) (worker + 1) runs)
+    all_append (λ (p : ℕ × RunPlace). IsRunPlace chunk_of step groups workers p.0 p.1) (places_in step (length groups) worker 0 r.numbers) (places_from step (length groups) (worker + 1) runs)
     (places_in-placed chunk_of step groups workers worker r 0 r.numbers here (are 0 r (omega arith)))
     (places_from-placed chunk_of step groups workers (worker + 1) runs
     (λ i x is. ap (slice_get workers) (omega arith) ∙ own (suc i) x is)
@@ -70,6 +70,6 @@ places_from-placed chunk_of step groups workers worker (r ∷ runs) own are =
 
 pub places_of-placed : (chunk_of : List (List ℕ) → ChunkValue) (step : ℕ) (groups : List (List (List ℕ))) (runs : List RunsValue)
     → All (λ (r : RunsValue). AreCoded chunk_of (groups_of_runs step groups r.numbers) r.chunks) runs
-    → AllByRecursion (λ (p : ℕ × RunPlace). IsPlaceOf chunk_of step groups runs p.0 p.1) (places_of step (length groups) runs)
+    → AllByRecursion (λ (p : ℕ × RunPlace). IsRunPlace chunk_of step groups runs p.0 p.1) (places_of step (length groups) runs)
 places_of-placed chunk_of step groups runs are =
     places_from-placed chunk_of step groups runs 0 runs (λ i r is. ap (slice_get runs) (omega arith) ∙ is) are

@@ -2,15 +2,15 @@
 use Rattle.std.specs.Prelude.{◌≡◌, ℕ, if◌then◌else◌, Some, List, [], ◌∷◌, ◌++◌, slice_get}
 use Rattle.std.specs.List.{concat}
 use Rattle.chunk_header.specs.Chunks.{ChunkValue, header_bytes}
-use Rattle.chunk_workers.specs.declared.coded_chunks.Head.{Head}
+use Rattle.chunk_workers.specs.declared.coded_chunks.CodedHead.{CodedHead}
 
 -- a coded chunk: its head, and its data, or what stands in its data before the records
 pub record CodedValue : Type 0 where
-  pub head : Head
+  pub head : CodedHead
   pub front : List ℕ
 
 -- heads, each with its front
-abbrev pub coded_of : List Head → List (List ℕ) → List CodedValue
+abbrev pub coded_of : List CodedHead → List (List ℕ) → List CodedValue
 coded_of [] fronts = []
 coded_of (head ∷ heads) [] = []
 coded_of (head ∷ heads) (front ∷ fronts) = record { head = head; front = front } ∷ coded_of heads fronts

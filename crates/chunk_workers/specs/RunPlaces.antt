@@ -21,7 +21,7 @@ abbrev pub places_of : ℕ → ℕ → List RunsValue → List (ℕ × RunPlace)
 places_of step groups runs = places_from step groups 0 runs
 
 -- from the place on there is a coded chunk for each group of the run of this number
-pub record IsPlaceOf (chunk_of : List (List ℕ) → ChunkValue) (step : ℕ) (groups : List (List (List ℕ))) (workers : List RunsValue) (number : ℕ) (place : RunPlace) : Type 0 where
+pub record IsRunPlace (chunk_of : List (List ℕ) → ChunkValue) (step : ℕ) (groups : List (List (List ℕ))) (workers : List RunsValue) (number : ℕ) (place : RunPlace) : Type 0 where
   pub r : RunsValue
   pub runs : slice_get workers place.worker ≡ Some r
   pub stands : (j : ℕ) (group : List (List ℕ)) → slice_get (run_of step groups number) j ≡ Some group → IsCodedAt chunk_of group r.chunks (place.first + j)

@@ -17,7 +17,7 @@ const MOST_COPIED: usize = 4096;
 
 /// What a coded chunk has beside its data. Own.
 #[derive(Clone, Copy, Debug)]
-pub struct Head {
+pub struct CodedHead {
     /// The bytes of its header.
     pub header: [u8; HEADER_SIZE],
     /// How many records it holds.
@@ -29,7 +29,7 @@ pub struct Head {
 /// Coded chunks, each with its data, or with what stands in its data before the records, which stay where they are then. Own.
 #[derive(Drop)]
 pub struct CodedChunks {
-    heads: Vec<Head>,
+    heads: Vec<CodedHead>,
     fronts: Records,
     /// Where a front is made.
     scratch: Vec<u8>,
@@ -81,7 +81,7 @@ impl CodedChunks {
     }
 
     /// The chunk of this number, which counts from 0 and is below `len`: its head, and its data or its front.
-    pub fn get(&self, i: usize) -> (&Head, &[u8])
+    pub fn get(&self, i: usize) -> (&CodedHead, &[u8])
         requires { i < length self.now }
         ensures { slice_get self.now i ≡ Some (record { head = result.0.now; front = result.1.now }) }
     {
@@ -116,12 +116,12 @@ impl CodedChunks {
 }
 
 /// The head of a chunk of this header.
-fn head_of(header: &Header, takes_values: bool) -> Head
+fn head_of(header: &Header, takes_values: bool) -> CodedHead
     ensures header { (k : ChunkValue) → IsHeaderOf header.now k → result.header ≡ header_bytes k }
     ensures records { result.num_records ≡ header.now.num_records }
     ensures takes { result.takes_values ≡ takes_values }
 {
-    Head {
+    CodedHead {
         header: header.to_bytes(),
         num_records: header.num_records,
         takes_values,
@@ -166,9 +166,9 @@ fn append_few(front: &mut Vec<u8>, values: &[u8]) -> Result<bool, AllocError>
 
 /// Appends a head and its front, or nothing.
 fn append_chunk(
-    heads: &mut Vec<Head>,
+    heads: &mut Vec<CodedHead>,
     fronts: &mut Records,
-    head: Head,
+    head: CodedHead,
     front: &[u8],
 ) -> Result<(), AllocError>
     ensures appends { OnOk result ((heads.new.items ≡ heads.old.items ++ head ∷ []) × (fronts.new ≡ fronts.old ++ front.now ∷ [])) }

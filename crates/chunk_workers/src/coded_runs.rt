@@ -2,7 +2,7 @@
 ghost use Rattle.std.specs.Prelude.{◌≡◌, ◌^◌, ◌<◌, ◌≤◌, Some, length, slice_get};
 ghost use Rattle.chunk_workers.specs.Runs.{no_runs, run_count};
 
-use crate::coded_chunks::{CodedChunks, Head};
+use crate::coded_chunks::{CodedChunks, CodedHead};
 use std::alloc::Global;
 use std::marker::Model;
 
@@ -55,7 +55,7 @@ impl CodedRuns {
     }
 
     /// The chunk of this number, which counts from 0 and is below `len`: its head, and its data or its front.
-    pub fn chunk(&self, i: usize) -> (&Head, &[u8])
+    pub fn chunk(&self, i: usize) -> (&CodedHead, &[u8])
         requires { i < length self.now.chunks }
         ensures { slice_get self.now.chunks i ≡ Some (record { head = result.0.now; front = result.1.now }) }
     {

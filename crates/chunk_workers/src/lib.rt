@@ -10,7 +10,7 @@ mod places;
 mod window;
 mod workers;
 
-pub use coded_chunks::{CodedChunks, Head};
+pub use coded_chunks::{CodedChunks, CodedHead};
 pub use coded_runs::{CodedRuns, run_count};
 pub use coder::{Coder, SimpleCoder};
 pub use draws::{DrawSeat, Draws};

@@ -13,7 +13,7 @@ use Rattle.simple_chunk.specs.Costs.{cost_of}
 use Rattle.chunk_workers.specs.declared.places.RunPlace.{RunPlace}
 use Rattle.chunk_workers.specs.Coded.{AreCoded, CodedValue, IsCodedAt, StandsFor}
 use Rattle.chunk_workers.specs.Runs.{RunsValue, groups_of_runs, run_count, run_of}
-use Rattle.chunk_workers.specs.RunPlaces.{IsPlaceOf, places_of}
+use Rattle.chunk_workers.specs.RunPlaces.{IsRunPlace, places_of}
 use Rattle.meta_chunk.specs.Files.{end_of_chunks}
 use Rattle.meta_chunk.proofs.Joins.{end_of_chunks-append}
 use Rattle.chunk_workers.proofs.RunLists.{run-next, run_of-at, runs_reach}
@@ -85,7 +85,7 @@ order-held step groups runs order are some_step some few is =
     let r : Reordering RunPlace = reordering_from 0 count in
     let room : length r.held ≡ count = length-replicate count None in
     let after : Reordering RunPlace = with_each r places in
-    let comes = come (IsPlaceOf simple_chunk step groups runs) r count places (fresh_window 0 count places (each-placed step groups runs are))
+    let comes = come (IsRunPlace simple_chunk step groups runs) r count places (fresh_window 0 count places (each-placed step groups runs are))
     (places_of-placed simple_chunk step groups runs are.coded) in
     subst (AreInOrder step groups runs) (sym is)
     (record {
@@ -132,7 +132,7 @@ group-in_run step number i groups group less at =
 
 -- and its chunk stands at its run's place
 pub coded-at : (step number i : ℕ) (groups : List (List (List ℕ))) (runs : List RunsValue) (place : RunPlace) (r : RunsValue) (group : List (List ℕ))
-    → IsPlaceOf simple_chunk step groups runs number place → r ≡ get_or runs place.worker r → i < step → slice_get groups (number * step + i) ≡ Some group
+    → IsRunPlace simple_chunk step groups runs number place → r ≡ get_or runs place.worker r → i < step → slice_get groups (number * step + i) ≡ Some group
     → IsCodedAt simple_chunk group r.chunks (place.first + i)
 coded-at step number i groups runs place r group placed is less at =
     subst (λ (r : RunsValue). IsCodedAt simple_chunk group r.chunks (place.first + i)) (sym (is ∙ get_or_from_slice_get runs place.worker placed.r r placed.runs))

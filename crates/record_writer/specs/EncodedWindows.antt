@@ -8,7 +8,7 @@ use Rattle.simple_chunk.specs.Costs.{cost_of}
 use Rattle.chunk_workers.specs.declared.places.RunPlace.{RunPlace}
 use Rattle.chunk_workers.specs.Coded.{AreCoded}
 use Rattle.chunk_workers.specs.Runs.{RunsValue, groups_of_runs, run_count}
-use Rattle.chunk_workers.specs.RunPlaces.{IsPlaceOf}
+use Rattle.chunk_workers.specs.RunPlaces.{IsRunPlace}
 use Rattle.ordered_writer.specs.Reorders.{Reordering, coming, count_held, room_of}
 
 -- a coder makes the simple chunk of each list of records that costs at most 2^25
@@ -29,7 +29,7 @@ pub record AreRunsOf (step : ℕ) (groups : List (List (List ℕ))) (runs : List
 -- from one number on, the chunks of each run stand at the place that is given for it
 abbrev pub ArePlaces : ℕ → List (List (List ℕ)) → List RunsValue → ℕ → List RunPlace → Type 0
 ArePlaces step groups runs number places =
-    AllByRecursion (λ p. IsPlaceOf simple_chunk step groups runs p.0 p.1) (enumerate_from number places)
+    AllByRecursion (λ p. IsRunPlace simple_chunk step groups runs p.0 p.1) (enumerate_from number places)
 
 -- the places of all runs come next, by their numbers
 pub record AreInOrder (step : ℕ) (groups : List (List (List ℕ))) (runs : List RunsValue) (order : Reordering RunPlace) : Type 0 where

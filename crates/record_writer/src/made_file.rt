@@ -12,7 +12,7 @@ ghost use Rattle.record_group.specs.Groups.{padding_if};
 ghost use Rattle.record_writer.specs.MadeFiles.{LaysOrSpends, MayLay, MayPad, nothing_made, resumed_at, totals_made};
 
 use chunk_header::Chunk;
-use chunk_workers::Head;
+use chunk_workers::CodedHead;
 use ordered_writer::OrderedWriter;
 use record_io::{Failed, PutBuffer, Sink, Totals};
 use simple_chunk::RecordsRef;
@@ -110,7 +110,7 @@ impl MadeFile {
     pub(crate) fn put_coded<M: Sink>(
         &mut self,
         made: &mut M,
-        head: &Head,
+        head: &CodedHead,
         front: &[u8],
         group: &RecordsRef<'_>,
     ) -> Result<(), Failed>
@@ -186,7 +186,7 @@ impl MadeFile {
 }
 
 /// The bytes of a group's records where they belong behind what was encoded of its chunk.
-fn values_after<'a>(head: &Head, group: &'a RecordsRef<'_>) -> &'a [u8]
+fn values_after<'a>(head: &CodedHead, group: &'a RecordsRef<'_>) -> &'a [u8]
     ensures { result.now ≡ (if head.now.takes_values then concat group.now else []) }
 {
     if head.takes_values {

@@ -3,7 +3,7 @@ ghost use Rattle.std.specs.Prelude.{◌≡◌, ◌^◌, ◌<◌, ◌≤◌, true
 ghost use Rattle.chunk_header.specs.SimpleChunks.{simple_chunk};
 ghost use Rattle.simple_chunk.specs.Costs.{cost_of};
 ghost use Rattle.chunk_workers.specs.Runs.{run_count, run_of};
-ghost use Rattle.chunk_workers.specs.RunPlaces.{IsPlaceOf};
+ghost use Rattle.chunk_workers.specs.RunPlaces.{IsRunPlace};
 ghost use Rattle.ordered_writer.specs.Reorders.{HasEachFrom, reordering_from, with_each};
 ghost use Rattle.record_group.specs.Groupings.{new_grouping};
 ghost use Rattle.record_writer.specs.EncodedWindows.{AreInOrder, AreRunsOf, CanBeEncoded, EncodesSimply};
@@ -286,7 +286,7 @@ fn put_run<M: Sink>(
 ) -> Result<(), Failed>
     requires step { 1 ≤ step }
     requires number { number < run_count step (length groups.now.groups) }
-    requires place { IsPlaceOf simple_chunk step groups.now.groups runs.now number place }
+    requires place { IsRunPlace simple_chunk step groups.now.groups runs.now number place }
     requires short { All (λ group. cost_of group ≤ 2 ^ 25) groups.now.groups }
     requires may_lay { MayLay file.old (chunks_of_groups (run_of step groups.now.groups number)) }
     ensures { LaysTo M.taken M.lent M.faults (IsErr result) result file.old file.new (chunks_of_groups (run_of step groups.now.groups number))

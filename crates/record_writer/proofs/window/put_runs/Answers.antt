@@ -3,7 +3,7 @@ use Rattle.std.proofs.lemmas.Result.{err_from_is_err_and}
 use Rattle.chunk_header.specs.SimpleChunks.{simple_chunk}
 use Rattle.chunk_workers.specs.declared.places.RunPlace.{RunPlace}
 use Rattle.chunk_workers.specs.Runs.{run_count, run_of}
-use Rattle.chunk_workers.specs.RunPlaces.{IsPlaceOf}
+use Rattle.chunk_workers.specs.RunPlaces.{IsRunPlace}
 use Rattle.ordered_writer.specs.Reorders.{Reordering, coming}
 use Rattle.record_writer.specs.EncodedWindows.{ArePlaces}
 use Rattle.record_writer.specs.MadeFiles.{Lays, MayLay, chunks_of_groups}
@@ -36,7 +36,7 @@ number_is g c =
     (omega (arith, next, c.wanted-number.ensures), next)
 
 -- its place, and those behind it
-places_are : (g : _) (c : After-wanted-number g) → IsPlaceOf simple_chunk c.args.step c.args.groups.now.groups c.args.runs.now c.loop-place.order.wanted c.in-Some.place
+places_are : (g : _) (c : After-wanted-number g) → IsRunPlace simple_chunk c.args.step c.args.groups.now.groups c.args.runs.now c.loop-place.order.wanted c.in-Some.place
     × ArePlaces c.args.step c.args.groups.now.groups c.args.runs.now (c.loop-place.order.wanted + 1) (coming c.next.new.self)
 places_are g c =
     subst (λ (places : List RunPlace). ArePlaces c.args.step c.args.groups.now.groups c.args.runs.now c.loop-place.order.wanted places) c.in-Some.ensures.coming
@@ -54,7 +54,7 @@ put_run-requires-clause-number g c =
 pub put_run-requires-clause-place : goal.put_run-requires-clause-place
 put_run-requires-clause-place g c =
     let at = (goal.at.put_run-requires-clause-place g c).After-wanted-number in
-    subst (λ (n : ℕ). IsPlaceOf simple_chunk c.args.step c.args.groups.now.groups c.args.runs.now n c.in-Some.place) (sym (number_is g at).0) (places_are g at).0
+    subst (λ (n : ℕ). IsRunPlace simple_chunk c.args.step c.args.groups.now.groups c.args.runs.now n c.in-Some.place) (sym (number_is g at).0) (places_are g at).0
 
 pub put_run-requires-clause-may_lay : goal.put_run-requires-clause-may_lay
 put_run-requires-clause-may_lay g c =
