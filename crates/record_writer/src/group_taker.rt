@@ -21,7 +21,8 @@ use std::marker::Model;
 /// A window of so many bytes is full while the work on those before is done.
 const LEAST: u64 = 3 << 19;
 
-/// A window of so many bytes is full also while that work goes on.
+/// A window of so many bytes is full also while that work goes on, where there are several workers. With one it is full with
+/// `LEAST` bytes then too, so that it takes little memory.
 const MOST: u64 = 1 << 22;
 
 /// How many groups for each worker fill the first window, so that the workers begin soon.
@@ -29,6 +30,13 @@ const FIRST_GROUPS: usize = 4;
 
 /// How many groups fill a later window, of whatever size.
 const MOST_GROUPS: usize = 1 << 16;
+
+/// How much fills the next window: so many groups of whatever size, or so many bytes while the work on those before goes on.
+#[derive(Clone, Copy)]
+struct Capacity {
+    groups: usize,
+    bytes: u64,
+}
 
 /// How much of a feed was taken. Own.
 #[derive(Clone, Copy, Debug, PartialEq, Eq)]
@@ -47,8 +55,7 @@ pub(crate) struct GroupTaker {
     buffer: GroupBuffer,
     /// The record that was pulled last.
     rec: Bytes,
-    /// How many groups fill the next window, of whatever size.
-    groups: usize,
+    capacity: Capacity,
 }
 
 impl Model for GroupTaker {
@@ -72,7 +79,10 @@ impl GroupTaker {
             alloc,
             buffer: GroupBuffer::new(alloc, options.size, options.every),
             rec: Bytes::new(alloc),
-            groups: options.workers as usize * FIRST_GROUPS,
+            capacity: Capacity {
+                groups: options.workers as usize * FIRST_GROUPS,
+                bytes: if options.workers == 1 { LEAST } else { MOST },
+            },
         }
     }
 
@@ -93,11 +103,11 @@ impl GroupTaker {
             &mut self.buffer,
             &mut self.rec,
             feed,
-            self.groups,
+            self.capacity,
             pace,
         );
         window.fill(&mut self.buffer);
-        self.groups = MOST_GROUPS;
+        self.capacity.groups = MOST_GROUPS;
         if part == Ok(FeedPart::Window) {
             self.buffer.append(self.rec.as_slice())?;
         }
@@ -112,7 +122,7 @@ fn fill<L: RecordFeed>(
     buffer: &mut GroupBuffer,
     rec: &mut Bytes,
     feed: &mut L,
-    groups: usize,
+    capacity: Capacity,
     pace: &Pace,
 ) -> Result<FeedPart, CutOff>
     requires feed_going { L.going feed.old ≡ true }
@@ -131,7 +141,7 @@ fn fill<L: RecordFeed>(
             Err(FeedEnd::Failed) => return Err(CutOff::Input),
             Err(FeedEnd::Memory) => return Err(CutOff::Memory),
         }
-        if close_before(buffer, rec.as_slice())? && is_enough(buffer, groups, pace) {
+        if close_before(buffer, rec.as_slice())? && is_enough(buffer, capacity, pace) {
             return Ok(FeedPart::Window);
         }
         buffer.append(rec.as_slice())?;
@@ -173,7 +183,11 @@ fn close_before(buffer: &mut GroupBuffer, rec: &[u8]) -> Result<bool, AllocError
 }
 
 /// Whether a window is full with the groups that closed.
-fn is_enough(buffer: &GroupBuffer, groups: usize, pace: &Pace) -> bool {
-    let size = if pace.is_behind() { MOST } else { LEAST };
-    buffer.groups() >= groups || buffer.size() >= size || pace.has_failed()
+fn is_enough(buffer: &GroupBuffer, capacity: Capacity, pace: &Pace) -> bool {
+    let bytes = if pace.is_behind() {
+        capacity.bytes
+    } else {
+        LEAST
+    };
+    buffer.groups() >= capacity.groups || buffer.size() >= bytes || pace.has_failed()
 }
