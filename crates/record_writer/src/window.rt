@@ -167,10 +167,13 @@ impl Window {
         file.flush(made)
     }
 
-    /// Forgets the groups, and keeps their memory.
+    /// Forgets the groups, and keeps their memory unless it is large.
     fn clear(&mut self)
         ensures { self.new ≡ record { groups = []; encoded = false } }
     {
+        if self.is_large() {
+            self.groups = RecordGroups::new(self.alloc);
+        }
         self.groups.clear();
         self.order = None;
     }
