@@ -141,6 +141,20 @@ pub allowed_given : (unread_ok : Bool) (size place : ℕ) (j : Judged) → IsJud
 allowed_given unread_ok size place j h =
     IsAllowed-passed unread_ok (value_of_chunk j.chunk) h.small (what_passed unread_ok (value_of_chunk j.chunk) j.what h.what)
 
+-- a chunk that ends within a size is judged of a file of that size
+pub judged_within : (unread_ok : Bool) (end size place : ℕ) (j : Judged) → end ≤ size → IsJudged unread_ok end place j → IsJudged unread_ok size place j
+judged_within unread_ok end size place j within h = record {
+  begin = h.begin;
+  end = h.end;
+  to_boundary = h.to_boundary;
+  after = h.after;
+  within = omega (arith, h.within, within);
+  small = h.small;
+  right = h.right;
+  sound = h.sound;
+  what = h.what;
+}
+
 -- a chunk takes up at least as many bytes as it holds records
 pub room_given : (unread_ok : Bool) (size place : ℕ) (j : Judged) → IsJudged unread_ok size place j → place + j.chunk.header.num_records ≤ j.end
 room_given unread_ok size place j h =

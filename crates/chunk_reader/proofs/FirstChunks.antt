@@ -4,11 +4,11 @@ use Rattle.block_layout.specs.Layout.{IsBoundary}
 use Rattle.record_values.specs.declared.file_totals.Totals.{Totals}
 use Rattle.chunk_header.specs.Chunks.{ChunkValue, IsChunk}
 use Rattle.chunk_header.specs.Views.{HasRightHash, value_of_chunk}
-use Rattle.meta_chunk.specs.Files.{totals_of, signature}
+use Rattle.meta_chunk.specs.Files.{totals_of, IsChainOf, signature}
 use Rattle.meta_chunk.specs.Laid.{end_of_chunk}
 use Rattle.meta_chunk.proofs.Held.{IsSignature-one}
 use Rattle.chunk_reader.specs.Contents.{IsWhat, IsJudged, IsJudgedIn}
-use Rattle.chunk_reader.specs.Faults.{BeginsWithSignature}
+use Rattle.chunk_reader.specs.Faults.{BeginsWithSignature, IsAllowed}
 use Rattle.chunk_reader.specs.Places.{chunk_at, end_at}
 use Rattle.chunk_reader.specs.Progress.{AreInBounds, AreReadFrom}
 use Rattle.chunk_reader.specs.declared.judging.Judged.{Judged}
@@ -30,10 +30,15 @@ AreInBounds-signature size long = record {
   unread = omega arith;
 }
 
-totals_of-signature : totals_of (signature ∷ []) ≡ signature_alone
+pub totals_of-signature : totals_of (signature ∷ []) ≡ signature_alone
 totals_of-signature = ap (λ (end : ℕ). let t : Totals = record { chunks = 1; records = 0; bytes = end; unread = 0 } in t) end_of_chunk-signature
 
--- a file that begins with its bytes was read up to its end
+-- a file that begins with its bytes has it at its front, and was read up to its end
+pub signature_chain_in : (unread_ok : Bool) (bytes : Option (List ℕ)) → IfSome bytes BeginsWithSignature
+    → IfSome bytes (λ file. IsChainOf (IsAllowed unread_ok) (signature ∷ []) file 64)
+signature_chain_in unread_ok None begins = tt
+signature_chain_in unread_ok (Some file) begins = signature_chain unread_ok file begins
+
 pub signature_read : (unread_ok : Bool) (bytes : Option (List ℕ)) → IfSome bytes BeginsWithSignature
     → IfSome bytes (λ file. AreReadFrom unread_ok file signature_alone)
 signature_read unread_ok None begins = tt

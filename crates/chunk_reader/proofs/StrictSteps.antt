@@ -1,5 +1,5 @@
 -- The steps of judging a chunk at a place, where the bytes of the file may be shown.
-use Rattle.std.proofs.Common.{◌≡◌, ◌≢◌, ◌∙◌, ℕ, ◌+◌, ◌≤◌, Bool, true, false, inl, inr, Option, Some, None, IfSome, List, refl, sym, ap, subst, arith}
+use Rattle.std.proofs.Common.{◌≡◌, ◌≢◌, ◌∙◌, ℕ, ◌+◌, ◌≤◌, Bool, true, false, inl, inr, Option, Some, None, IfSome, IsSomeAnd, List, refl, sym, ap, subst, arith}
 use Rattle.std.proofs.lemmas.Bool.{cases_eq}
 use Rattle.highway_hash.specs.Riegeli.{riegeli_hash}
 use Rattle.chunk_header.specs.Chunks.{IsChunk}
@@ -116,12 +116,13 @@ right_hash true c none = hash_same (riegeli_hash c.bytes) c.header.data_hash non
 right_hash false c none = hash_same (riegeli_hash c.bytes) c.header.data_hash none.0
 
 -- and the chunk is judged
-pub judged_in : (bytes : Option (List ℕ)) (unread_ok : Bool) (size at end : ℕ) (c : Chunk) (j : Judged) → IsSized bytes (Some size)
-    → IsLoaded bytes at end c → end ≤ size → j.end ≡ end → j.chunk ≡ c
+pub judged_in : (bytes : Option (List ℕ)) (told : Option ℕ) (unread_ok : Bool) (at end : ℕ) (c : Chunk) (j : Judged) → IsSized bytes told
+    → IsSomeAnd told (λ size. end ≤ size) → IsLoaded bytes at end c → j.end ≡ end → j.chunk ≡ c
     → NoneOf (ContentApplies c.header.data_hash (value_of_chunk c)) (content_reasons unread_ok)
     → IfSome bytes (λ file. IsJudgedIn unread_ok file at j)
-judged_in None unread_ok size at end c j sized loaded within is_end is_chunk none = tt
-judged_in (Some file) unread_ok size at end c j sized loaded within is_end is_chunk none =
+judged_in None told unread_ok at end c j sized within loaded is_end is_chunk none = tt
+judged_in (Some file) None unread_ok at end c j sized within loaded is_end is_chunk none = elim within [ ]
+judged_in (Some file) (Some size) unread_ok at end c j sized within loaded is_end is_chunk none =
     let h = c.header in
     let found = loaded.found in
     let same_end : end ≡ end_at file at = found.ends ∙ end_by-at file at h found.fits found.header in
@@ -132,10 +133,3 @@ judged_in (Some file) unread_ok size at end c j sized loaded within is_end is_ch
       laid = laid_at file at h c.bytes found.fits found.header loaded.given loaded.sound (omega (arith, same_end, within)) right (right_hash unread_ok c none);
       none = none_at unread_ok file at h c.bytes found.fits found.header loaded.given found.none right none;
     }
-
--- no more was handed out than the chunk has bytes
-pub handed_whole : (bytes : Option (List ℕ)) (at end before after : ℕ) (h : Header) → IsFoundHead loading_reasons bytes at h end → after + at ≤ before + end
-    → IfSome bytes (λ file. NoneOf (Applies file at) unpassed_reasons → after + at ≤ before + end_at file at)
-handed_whole None at end before after h found few = tt
-handed_whole (Some file) at end before after h found few =
-    λ _. omega (arith, few, found.ends, end_by-at file at h found.fits found.header)

@@ -1,5 +1,5 @@
 -- A chunk that is judged while its data comes in pieces.
-use Rattle.std.proofs.Common.{◌≡◌, ◌∙◌, ◌+◌, ◌<◌, ◌≤◌, ℕ, Bool, true, false, Result, Option, Some, None, IfSome, Ok, Err, List, [], ◌∷◌, ◌++◌, length, refl, sym, ap, subst, inl, inr, arith}
+use Rattle.std.proofs.Common.{◌≡◌, ◌∙◌, ◌+◌, ◌<◌, ◌≤◌, ℕ, Bool, true, false, Result, Option, Some, None, IfSome, IsSomeAnd, Ok, Err, List, [], ◌∷◌, ◌++◌, length, refl, sym, ap, subst, inl, inr, arith}
 use Rattle.highway_hash.specs.Riegeli.{riegeli_hash}
 use Rattle.std.proofs.lemmas.Bool.{cases_eq}
 use Rattle.record_values.specs.Bytes.{AreBytes}
@@ -45,10 +45,16 @@ pub tells_contents : (hash : ℕ) (k : ChunkValue) → riegeli_hash k.«data» �
 tells_contents hash k right bad = inr (λ wrong. wrong right, inl (bad, refl))
 
 -- the header of a chunk that the file has was found at a place
-pub record IsFound (bytes : Option (List ℕ)) (size at end : ℕ) (h : Header) : Type 0 where
-  pub sized : IsSized bytes (Some size)
+pub record IsFound (bytes : Option (List ℕ)) (at end : ℕ) (h : Header) : Type 0 where
   pub head : IsFoundHead loading_reasons bytes at h end
-  pub within : end ≤ size
+  pub whole : IfSome bytes (λ file. end ≤ length file)
+
+-- a chunk that ends within the told size ends within the bytes that are shown
+pub whole_in : (bytes : Option (List ℕ)) (told : Option ℕ) (end : ℕ) → IsSized bytes told → IsSomeAnd told (λ size. end ≤ size)
+    → IfSome bytes (λ file. end ≤ length file)
+whole_in None told end sized within = tt
+whole_in (Some file) None end sized within = elim within [ ]
+whole_in (Some file) (Some size) end sized within = omega (arith, within, sized)
 
 -- the chunk there is refused where its header can't be found, and at its first wrong block
 pub refused_loading : (bytes : Option (List ℕ)) (at : ℕ) (fault : Fault) → fault.at ≡ at
@@ -56,12 +62,12 @@ pub refused_loading : (bytes : Option (List ℕ)) (at : ℕ) (fault : Fault) →
 refused_loading None at fault here first = tt
 refused_loading (Some file) at fault here first = verdict_loading true file at fault first here
 
-pub refused_block : (bytes now : Option (List ℕ)) (size at end : ℕ) (h : Header) (fault : Fault) → IsFound bytes size at end h → now ≡ bytes
+pub refused_block : (bytes now : Option (List ℕ)) (at end : ℕ) (h : Header) (fault : Fault) → IsFound bytes at end h → now ≡ bytes
     → fault.why ≡ why.BlockHeader → IfSome now (λ file. IsFirstWrong file at end at end fault.at)
     → IfSome bytes (λ file. IsVerdict true file at fault)
-refused_block None now size at end h fault found same reason wrong = tt
-refused_block (Some file) None size at end h fault found same reason wrong = cc
-refused_block (Some file) (Some other) size at end h fault found same reason wrong =
+refused_block None now at end h fault found same reason wrong = tt
+refused_block (Some file) None at end h fault found same reason wrong = cc
+refused_block (Some file) (Some other) at end h fault found same reason wrong =
     let is : other ≡ file = cc in
     verdict_block true file at end fault found.head.none (found.head.ends ∙ end_by-at file at h found.head.fits found.head.header)
     (subst (λ (f : List ℕ). IsFirstWrong f at end at end fault.at) is wrong) reason
@@ -75,60 +81,61 @@ pub record IsThrough (bytes : Option (List ℕ)) (at end : ℕ) (h : Header) (ju
       → TellsUnread judge.header.data_hash (value_of judge.header taken) told
 
 -- so it is told of the chunk
-tells_data : (file : List ℕ) (size at end : ℕ) (h : Header) (judge : PieceJudge) (told : Result Bool Why)
-    → IsFound (Some file) size at end h → IsThrough (Some file) at end h judge told
+tells_data : (file : List ℕ) (at end : ℕ) (h : Header) (judge : PieceJudge) (told : Result Bool Why)
+    → IsFound (Some file) at end h → IsThrough (Some file) at end h judge told
     → TellsUnread h.data_hash (value_of h (data_at file at h.data_size)) told
-tells_data file size at end h judge told found through =
+tells_data file at end h judge told found through =
     let whole : length (data_at file at h.data_size) ≡ h.data_size =
-    length-data_at file at h.data_size h.num_records (omega (arith, found.head.ends, found.within, found.sized)) in
+    length-data_at file at h.data_size h.num_records (omega (arith, found.head.ends, found.whole)) in
     let P : Header → Type 0 = λ x. (taken : List ℕ) → HasTaken judge taken → length taken ≡ x.data_size
     → TellsUnread x.data_hash (value_of x taken) told in
     let tells : P h = subst P through.header through.tells in
     tells (data_at file at h.data_size) through.taken whole
 
-blocks_at : (file : List ℕ) (size at end : ℕ) (h : Header) → IsFound (Some file) size at end h → HaveHeadersOf file at end at end
+blocks_at : (file : List ℕ) (at end : ℕ) (h : Header) → IsFound (Some file) at end h → HaveHeadersOf file at end at end
     → HaveHeadersOf file at (end_at file at) at (end_at file at)
-blocks_at file size at end h found right =
+blocks_at file at end h found right =
     subst (λ (e : ℕ). HaveHeadersOf file at e at e) (found.head.ends ∙ end_by-at file at h found.head.fits found.head.header) right
 
-pub passed : (bytes : Option (List ℕ)) (size at : ℕ) (h : Header) (judge : PieceJudge) (v : Verified)
-    → IsFound bytes size at v.end h → IsThrough bytes at v.end h judge (Ok v.unread) → v.header ≡ h
+pub passed : (bytes : Option (List ℕ)) (at : ℕ) (judge : PieceJudge) (v : Verified)
+    → IsFound bytes at v.end v.header → IsThrough bytes at v.end v.header judge (Ok v.unread)
     → IfSome bytes (λ file. IsVerifiedIn true file at v)
-passed None size at h judge v found through same = tt
-passed (Some file) size at h judge v found through same =
-    let told = tells_data file size at v.end h judge (Ok v.unread) found through in
+passed None at judge v found through = tt
+passed (Some file) at judge v found through =
+    let h = v.header in
+    let told = tells_data file at v.end h judge (Ok v.unread) found through in
     let bytes : List ℕ = data_at file at h.data_size in
     let is : value_of h bytes ≡ chunk_at file at = value_of-at file at h bytes found.head.fits found.head.header refl in
     let «data» : bytes ≡ (chunk_at file at).«data» = ap (λ (c : ChunkValue). c.«data») is in
     let ends : v.end ≡ end_at file at = found.head.ends ∙ end_by-at file at h found.head.fits found.head.header in
-    let blocks : HaveHeadersOf file at (end_at file at) at (end_at file at) = blocks_at file size at v.end h found through.right in
+    let blocks : HaveHeadersOf file at (end_at file at) at (end_at file at) = blocks_at file at v.end h found through.right in
     let hash : riegeli_hash bytes ≡ h.data_hash =
     elim (cases_eq (riegeli_hash bytes) h.data_hash) [ inl right ↦ right | inr differs ↦ absurd (told.1.0 differs) ] in
     record {
       laid = IsLaid-right file at h (record {
         sound = found.head.fits;
         header = found.head.header;
-        whole = omega (arith, sym ends, found.within, found.sized);
+        whole = omega (arith, sym ends, found.whole);
         bytes = subst AreBytes «data» through.taken.are_bytes;
         hash = ap riegeli_hash (sym «data») ∙ hash ∙ hash_of-at file at h found.head.fits found.head.header;
         blocks = blocks;
       });
       none = none_at true file at h bytes found.head.fits found.head.header refl found.head.none blocks told.1;
       end = ends;
-      header = ap (λ (x : Header). value_of x (chunk_at file at).«data») same ∙ ap (value_of h) (sym «data») ∙ is;
+      header = ap (value_of h) (sym «data») ∙ is;
       unread = told.0 ∙ ap is_unread is;
     }
 
-pub refused_content : (bytes : Option (List ℕ)) (size at end : ℕ) (h : Header) (judge : PieceJudge) (fault : Fault)
-    → IsFound bytes size at end h → IsThrough bytes at end h judge (Err fault.why) → fault.at ≡ at
+pub refused_content : (bytes : Option (List ℕ)) (at end : ℕ) (h : Header) (judge : PieceJudge) (fault : Fault)
+    → IsFound bytes at end h → IsThrough bytes at end h judge (Err fault.why) → fault.at ≡ at
     → IfSome bytes (λ file. IsVerdict true file at fault)
-refused_content None size at end h judge fault found through here = tt
-refused_content (Some file) size at end h judge fault found through here =
+refused_content None at end h judge fault found through here = tt
+refused_content (Some file) at end h judge fault found through here =
     verdict_content true file at h.data_hash (value_of h (data_at file at h.data_size)) fault found.head.none
-    (blocks_at file size at end h found through.right)
+    (blocks_at file at end h found through.right)
     (hash_of-at file at h found.head.fits found.head.header)
     (value_of-at file at h (data_at file at h.data_size) found.head.fits found.head.header refl)
-    (tells_data file size at end h judge (Err fault.why) found through) here
+    (tells_data file at end h judge (Err fault.why) found through) here
 
 -- where such a chunk ends
 pub verified_end : (size at end data_size records : ℕ) → end ≡ chunk_end_of at (40 + data_size) records → end ≤ size

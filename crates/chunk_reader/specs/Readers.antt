@@ -5,11 +5,13 @@ use Rattle.record_values.specs.declared.file_totals.Totals.{Totals}
 use Rattle.chunk_header.specs.Chunks.{ChunkValue}
 use Rattle.chunk_header.specs.declared.Header.{Header}
 use Rattle.chunk_header.specs.Views.{value_of, value_of_chunk}
-use Rattle.meta_chunk.specs.Files.{totals_of, IsChainOf, IsFileOf}
+use Rattle.meta_chunk.specs.Files.{max_data_size, totals_of, IsChainOf, IsFileOf}
 use Rattle.chunk_reader.specs.Contents.{IsJudged}
 use Rattle.chunk_reader.specs.Faults.{BeginsWithSignature, IsAllowed, IsFault}
+use Rattle.chunk_reader.specs.Heads.{IsFoundHead}
 use Rattle.chunk_reader.specs.Progress.{ReaderValue, AreInBounds, AreReadFrom}
 use Rattle.chunk_reader.specs.Reasons.{Applies, NoneOf, loading_reasons}
+use Rattle.chunk_reader.specs.declared.file_reader.ChunkAhead.{ChunkAhead}
 use Rattle.chunk_reader.specs.declared.judging.Judged.{Judged}
 use Rattle.chunk_reader.specs.declared.reasons.Fault.{Fault}
 use Rattle.chunk_reader.specs.declared.reasons.ReadEnd.{ReadEnd}
@@ -38,6 +40,15 @@ pub record IsNextChunk (file : Option (List ℕ)) (before after : ReaderValue) (
   pub judged : IsJudged before.unread_ok before.size before.totals.bytes j
   pub moved : after.totals.bytes ≡ j.end
   pub given : IfSome file (λ bytes. GoesOn before.unread_ok bytes before.totals after.totals (value_of_chunk j.chunk))
+
+-- the header of the next chunk stands where the reader does, behind the signature: the file has the chunk whole, and its data
+-- isn't too large
+pub record IsAhead (file : Option (List ℕ)) (at : ReaderValue) (ahead : ChunkAhead) : Type 0 where
+  pub behind : 0 < at.totals.bytes
+  pub below : at.totals.bytes < at.size
+  pub found : IsFoundHead loading_reasons file at.totals.bytes ahead.header ahead.end
+  pub within : ahead.end ≤ at.size
+  pub small : ahead.header.data_size ≤ max_data_size
 
 -- the next chunk was judged and not held: it has this header, and is one more behind all that were given
 pub record IsNextPassed (file : Option (List ℕ)) (before after : ReaderValue) (header : Header) : Type 0 where

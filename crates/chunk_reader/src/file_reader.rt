@@ -1,25 +1,34 @@
-ghost use Rattle.std.specs.Prelude.{◌≡◌, ◌+◌, ◌-◌, ◌<◌, ◌≤◌, Bool, List, None, Some, IfOk, IfSome, IsErr, OnOk, OnErr, Ok, Err, ℕ};
-ghost use Rattle.record_io.specs.Calls.{AsksUpTo, OnlyAsks};
-ghost use Rattle.chunk_header.specs.declared.Header.{Header};
+ghost use Rattle.std.specs.Prelude.{◌≡◌, ◌+◌, ◌-◌, ◌<◌, ◌≤◌, Bool, [], ◌∷◌, List, None, Some, IfOk, IfSome, OnOk, OnErr, Ok, Err, ℕ};
+ghost use Rattle.record_io.specs.Calls.{AsksUpTo, HasSize, OnlyAsks};
+ghost use Rattle.meta_chunk.specs.Files.{totals_of, IsChainOf, signature};
 ghost use Rattle.chunk_reader.specs.Contents.{IsJudged, IsJudgedIn};
-ghost use Rattle.chunk_reader.specs.Faults.{BeginsWithSignature};
+ghost use Rattle.chunk_reader.specs.Faults.{BeginsWithSignature, IsAllowed, IsFault};
 ghost use Rattle.chunk_reader.specs.Progress.{AreReadFrom};
-ghost use Rattle.chunk_reader.specs.Readers.{ReadsIn, ReadsOn, IsNextChunk, IsNextPassed, IsReadWhole, IsFaultBehind, IsChunkAtHand, ReadsAtMost};
+ghost use Rattle.chunk_reader.specs.Readers.{ReadsIn, ReadsOn, IsAhead, IsNextChunk, IsNextPassed, IsReadWhole, IsFaultBehind, IsChunkAtHand, ReadsAtMost};
 ghost use Rattle.chunk_reader.specs.SearchBounds.{MayBeReadTo};
 ghost use Rattle.chunk_reader.specs.declared.reasons.Fault.{Fault};
 ghost use Rattle.chunk_reader.specs.declared.reasons.Why.{Why};
 ghost use Rattle.chunk_reader.specs.declared.judging.Judged.{Judged};
+ghost use Rattle.chunk_reader.specs.declared.file_reader.ChunkAhead.{ChunkAhead};
 
-use crate::heads::{Head, head_at};
-use crate::judging::{Judged, What, strict_at};
-use crate::progress::{NO_CHUNKS, check_signature, totals_with_chunk};
+use crate::judging::{Judged, What, strict_at, strict_under, whole_head_at};
+use crate::progress::{NO_CHUNKS, SIGNATURE_ALONE, check_signature, totals_with_chunk};
 use crate::reasons::{ReadEnd, VerifyEnd};
-use crate::verifying::judge_at;
+use crate::verifying::judge_under;
 use chunk_header::{Chunk, Header, Kind};
 use meta_chunk::SIGNATURE;
-use record_io::{Bytes, Failed, Store, Totals};
+use record_io::{Bytes, Store, Totals};
 use std::alloc::Global;
 use std::marker::Model;
+
+/// The header of the next chunk of a file, which has the chunk whole. Own.
+#[derive(Clone, Copy, Debug)]
+pub struct ChunkAhead {
+    /// The header.
+    pub header: Header,
+    /// Where the chunk ends.
+    pub(crate) end: u64,
+}
 
 /// Reads the chunks of a file one by one, from its front to its end or to its first fault. Own.
 #[derive(Debug, Drop)]
@@ -54,6 +63,32 @@ impl Reader {
             unread_ok,
             totals: NO_CHUNKS,
         }
+    }
+
+    /// A reader of a file of so many bytes, behind the signature that each file begins with. It takes no memory.
+    ///
+    /// # Errors
+    ///
+    /// `Refused` with the fault of a file that doesn't begin so. `Store` only where the store failed.
+    pub fn behind_signature<S: Store>(
+        store: &mut S,
+        size: u64,
+        unread_ok: bool,
+    ) -> Result<Reader, VerifyEnd>
+        requires sized { HasSize (S.told store.old) size }
+        ensures reads { IfOk result (λ reader. ReadsIn (S.bytes store.old) (S.told store.old) reader) }
+        ensures unread_ok { IfOk result (λ reader. reader.unread_ok ≡ unread_ok) }
+        ensures totals { IfOk result (λ reader. reader.totals ≡ totals_of (signature ∷ [])) }
+        ensures chain { IfOk result (λ reader. IfSome (S.bytes store.old) (λ file. IsChainOf (IsAllowed unread_ok) (signature ∷ []) file reader.totals.bytes)) }
+        ensures refused { (fault : Fault) → result ≡ Err (VerifyEnd.Refused fault) → IfSome (S.bytes store.old) (λ file. IsFault unread_ok file fault) }
+        ensures store { OnlyAsks S.bytes S.told S.name S.faults (result ≡ Err VerifyEnd.Store) store.old store.new }
+    {
+        check_signature(store, size)?;
+        Ok(Reader {
+            size,
+            unread_ok,
+            totals: SIGNATURE_ALONE,
+        })
     }
 
     /// Where the next chunk begins, which is where the last one that was given ends.
@@ -108,48 +143,79 @@ impl Reader {
         Ok(Some(judged))
     }
 
-    /// Judges the next chunk behind the signature without holding it, and answers its header; `None` exactly at the end of the
-    /// file, where it has no fault. It takes no memory.
+    /// The header of the next chunk behind the signature, where the file has the chunk whole and its data isn't too large; `None`
+    /// exactly at the end of the file, where it has no fault. The reader stays where it is. It takes no memory.
     ///
     /// # Errors
     ///
-    /// Those of `next`, but for want of memory.
-    pub fn pass<S: Store>(&mut self, store: &mut S) -> Result<Option<Header>, VerifyEnd>
-        requires reads { ReadsIn (S.bytes store.old) (S.told store.old) self.old }
-        requires behind { 0 < self.old.totals.bytes }
-        ensures goes_on { ReadsOn (S.bytes store.old) self.old self.new }
-        ensures chunk { (header : Header) → result ≡ Ok (Some header) → IsNextPassed (S.bytes store.old) self.old self.new header }
-        ensures ended { result ≡ Ok None → (self.new ≡ self.old) × IsReadWhole (S.bytes store.old) self.old }
-        ensures refused { (fault : Fault) → result ≡ Err (VerifyEnd.Refused fault) → IsFaultBehind (S.bytes store.old) self.old fault }
-        ensures kept { OnErr result (self.new ≡ self.old) }
+    /// `Refused` with the fault of the file, once all chunks before it were given. `Store` only where the store failed.
+    pub fn ahead<S: Store>(&self, store: &mut S) -> Result<Option<ChunkAhead>, VerifyEnd>
+        requires reads { ReadsIn (S.bytes store.old) (S.told store.old) self.now }
+        requires behind { 0 < self.now.totals.bytes }
+        ensures ahead { (ahead : ChunkAhead) → result ≡ Ok (Some ahead) → IsAhead (S.bytes store.old) self.now ahead }
+        ensures ended { result ≡ Ok None → IsReadWhole (S.bytes store.old) self.now }
+        ensures refused { (fault : Fault) → result ≡ Err (VerifyEnd.Refused fault) → IsFaultBehind (S.bytes store.old) self.now fault }
         ensures store { OnlyAsks S.bytes S.told S.name S.faults (result ≡ Err VerifyEnd.Store) store.old store.new }
     {
         if self.at() >= self.size {
             return Ok(None);
         }
-        let passed = judge_at(store, self.size, self.at(), self.unread_ok)?;
-        let records = passed.header.num_records;
-        self.totals = totals_with_chunk(&self.totals, passed.end, records, passed.unread);
-        Ok(Some(passed.header))
+        let (header, end) = whole_head_at(store, self.size, self.at())?;
+        Ok(Some(ChunkAhead { header, end }))
     }
 
-    /// The header that stands where the next chunk begins behind the signature; `None` where none does of which its own hash is
-    /// right. It isn't judged further, and the reader stays where it is.
+    /// Reads the next chunk, whose header was found, and holds it.
     ///
     /// # Errors
     ///
-    /// `Failed` only where the store failed.
-    pub fn header_ahead<S: Store>(&self, store: &mut S) -> Result<Option<Header>, Failed>
-        requires reads { ReadsIn (S.bytes store.old) (S.told store.old) self.now }
-        ensures store { OnlyAsks S.bytes S.told S.name S.faults (IsErr result) store.old store.new }
+    /// Those of `ahead`, and `Memory`. After an error the reader is as before.
+    pub fn read<S: Store>(
+        &mut self,
+        alloc: Global,
+        store: &mut S,
+        ahead: &ChunkAhead,
+    ) -> Result<Judged, ReadEnd>
+        requires reads { ReadsIn (S.bytes store.old) (S.told store.old) self.old }
+        requires ahead { IsAhead (S.bytes store.old) self.old ahead.now }
+        ensures goes_on { ReadsOn (S.bytes store.old) self.old self.new }
+        ensures chunk { IfOk result (λ j. IsNextChunk (S.bytes store.old) self.old self.new j) }
+        ensures header { IfOk result (λ j. j.chunk.header ≡ ahead.now.header) }
+        ensures refused { (fault : Fault) → result ≡ Err (ReadEnd.Refused fault) → IsFaultBehind (S.bytes store.old) self.old fault }
+        ensures kept { OnErr result (self.new ≡ self.old) }
+        ensures store { OnlyAsks S.bytes S.told S.name S.faults (result ≡ Err ReadEnd.Store) store.old store.new }
     {
-        if self.at() == 0 || self.at() >= self.size {
-            return Ok(None);
-        }
-        match head_at(store, self.size, self.at())? {
-            Head::Right { header, .. } => Ok(Some(header)),
-            Head::Short | Head::BadHash => Ok(None),
-        }
+        let judged = strict_under(
+            alloc,
+            store,
+            self.at(),
+            ahead.end,
+            ahead.header,
+            self.unread_ok,
+        )?;
+        let unread = matches!(judged.what, What::Unread);
+        let records = judged.chunk.header.num_records;
+        self.totals = totals_with_chunk(&self.totals, judged.end, records, unread);
+        Ok(judged)
+    }
+
+    /// Judges the next chunk, whose header was found, without holding it. It takes no memory.
+    ///
+    /// # Errors
+    ///
+    /// Those of `ahead`. After an error the reader is as before.
+    pub fn pass<S: Store>(&mut self, store: &mut S, ahead: &ChunkAhead) -> Result<(), VerifyEnd>
+        requires reads { ReadsIn (S.bytes store.old) (S.told store.old) self.old }
+        requires ahead { IsAhead (S.bytes store.old) self.old ahead.now }
+        ensures goes_on { ReadsOn (S.bytes store.old) self.old self.new }
+        ensures chunk { OnOk result (IsNextPassed (S.bytes store.old) self.old self.new ahead.now.header) }
+        ensures refused { (fault : Fault) → result ≡ Err (VerifyEnd.Refused fault) → IsFaultBehind (S.bytes store.old) self.old fault }
+        ensures kept { OnErr result (self.new ≡ self.old) }
+        ensures store { OnlyAsks S.bytes S.told S.name S.faults (result ≡ Err VerifyEnd.Store) store.old store.new }
+    {
+        let unread = judge_under(store, self.at(), ahead.end, &ahead.header, self.unread_ok)?;
+        let records = ahead.header.num_records;
+        self.totals = totals_with_chunk(&self.totals, ahead.end, records, unread);
+        Ok(())
     }
 }
 

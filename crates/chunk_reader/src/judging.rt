@@ -148,6 +148,30 @@ pub fn strict_at<S: Store>(
         at size store.old store.new }
 {
     let (header, end) = whole_head_at(store, size, at)?;
+    strict_under(alloc, store, at, end, header, unread_ok)
+}
+
+/// Judges the chunk of a header that was found at a place, up to where it ends.
+pub(crate) fn strict_under<S: Store>(
+    alloc: Global,
+    store: &mut S,
+    at: u64,
+    end: u64,
+    header: Header,
+    unread_ok: bool,
+) -> Result<Judged, ReadEnd>
+    requires span { HasSpan (S.told store.old) at end (value_of_header header) }
+    requires found { IsFoundHead loading_reasons (S.bytes store.old) at header end }
+    requires small { header.data_size ≤ max_data_size }
+    ensures judged { IfOk result (λ judged. IsJudged unread_ok end at judged) }
+    ensures header { IfOk result (λ judged. judged.chunk.header ≡ header) }
+    ensures sound { IfOk result (λ judged. IfSome (S.bytes store.old) (λ file. IsJudgedIn unread_ok file at judged)) }
+    ensures refused { (fault : Fault) → result ≡ Err (ReadEnd.Refused fault)
+        → IfSome (S.bytes store.old) (λ file. IsVerdict unread_ok file at fault) }
+    ensures late { (fault : Fault) → result ≡ Err (ReadEnd.Refused fault) → ¬ IsOneOf loading_reasons fault.why }
+    ensures store { AsksWithin S.bytes S.told S.handed S.name S.faults (result ≡ Err ReadEnd.Store)
+        (at + chunk_header_size) end store.old store.new }
+{
     let (chunk, right) = read_chunk(alloc, store, at, end, header)?;
     match what_of(alloc, &chunk, right, unread_ok) {
         Ok(what) => Ok(Judged {

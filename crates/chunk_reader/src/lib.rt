@@ -23,7 +23,7 @@ pub use block_judges::{BlockEnd, JudgesBlocks, judge_blocks};
 pub use chunk_content::{Content, ContentEnd};
 pub use content_judge::{content, content_under};
 pub use feeding::{TakesData, read_data};
-pub use file_reader::Reader;
+pub use file_reader::{ChunkAhead, Reader};
 pub use hashed_data::HashedData;
 pub use heads::{Head, head_at};
 pub use judging::{Judged, LoadEnd, MAX_DATA_SIZE, What, data_at, strict_at};

@@ -3,12 +3,15 @@ ghost use Rattle.record_io.specs.Calls.{AsksUpTo, AsksWithin, HasSize, OnlyAsks}
 ghost use Rattle.block_layout.specs.Layout.{chunk_header_size, IsBoundary, end_of};
 ghost use Rattle.chunk_header.specs.Chunks.{ChunkValue};
 ghost use Rattle.chunk_header.specs.Kinds.{transposed_kind};
-ghost use Rattle.meta_chunk.specs.Files.{totals_of, IsWellFormed};
+ghost use Rattle.chunk_header.specs.Views.{value_of_header};
+ghost use Rattle.meta_chunk.specs.Files.{max_data_size, totals_of, IsWellFormed};
 ghost use Rattle.chunk_reader.specs.Pieces.{IsVerifiedIn};
 ghost use Rattle.chunk_reader.specs.Faults.{IsFault, IsVerdict};
+ghost use Rattle.chunk_reader.specs.Heads.{IsFoundHead};
 ghost use Rattle.chunk_reader.specs.LongestFronts.{IsFrontOf};
 ghost use Rattle.chunk_reader.specs.Progress.{AreInBounds};
-ghost use Rattle.chunk_reader.specs.Sizes.{MayBeginAt};
+ghost use Rattle.chunk_reader.specs.Reasons.{loading_reasons};
+ghost use Rattle.chunk_reader.specs.Sizes.{MayBeginAt, HasSpan};
 ghost use Rattle.chunk_reader.specs.declared.reasons.Fault.{Fault};
 ghost use Rattle.chunk_reader.specs.declared.reasons.Why.TheVariants.{NoSignature};
 
@@ -121,38 +124,62 @@ fn verify_at<S: Store>(store: &mut S, size: u64, at: u64) -> Result<Verified, Ve
         at size store.old store.new }
 {
     let (header, end) = whole_head_at(store, size, at)?;
-    let mut judge = PieceJudge::new(&header);
-    feed_chunk(store, at, end, &header, &mut judge)?;
+    let unread = verify_under(store, at, end, &header)?;
+    Ok(Verified {
+        end,
+        header,
+        unread,
+    })
+}
+
+/// Judges the chunk of a header that was found at a place, up to where it ends, and answers whether it is left unread, as
+/// compressed and transposed chunks are.
+fn verify_under<S: Store>(
+    store: &mut S,
+    at: u64,
+    end: u64,
+    header: &Header,
+) -> Result<bool, VerifyEnd>
+    requires span { HasSpan (S.told store.old) at end (value_of_header header.now) }
+    requires found { IsFoundHead loading_reasons (S.bytes store.old) at header.now end }
+    requires small { header.now.data_size ≤ max_data_size }
+    ensures passed { IfOk result (λ unread. IfSome (S.bytes store.old)
+        (λ file. IsVerifiedIn true file at (record { end = end; header = header.now; unread = unread }))) }
+    ensures refused { (fault : Fault) → result ≡ Err (VerifyEnd.Refused fault)
+        → IfSome (S.bytes store.old) (λ file. IsVerdict true file at fault) }
+    ensures store { AsksWithin S.bytes S.told S.handed S.name S.faults (result ≡ Err VerifyEnd.Store)
+        (at + chunk_header_size) end store.old store.new }
+{
+    let mut judge = PieceJudge::new(header);
+    feed_chunk(store, at, end, header, &mut judge)?;
     match judge.finish() {
-        Ok(unread) => Ok(Verified {
-            end,
-            header,
-            unread,
-        }),
+        Ok(unread) => Ok(unread),
         Err(why) => Err(refused(at, why)),
     }
 }
 
 /// The same, but with `unread_ok` alone are compressed and transposed chunks left unread, and else refused.
-pub(crate) fn judge_at<S: Store>(
+pub(crate) fn judge_under<S: Store>(
     store: &mut S,
-    size: u64,
     at: u64,
+    end: u64,
+    header: &Header,
     unread_ok: bool,
-) -> Result<Verified, VerifyEnd>
-    requires place { MayBeginAt (S.told store.old) size at }
-    ensures end { IfOk result (λ v. IsBoundary v.end × (end_of at chunk_header_size ≤ v.end) × (v.end ≤ size)
-        × (at + v.header.num_records ≤ v.end)) }
-    ensures passed { IfOk result (λ v. IfSome (S.bytes store.old) (λ file. IsVerifiedIn unread_ok file at v)) }
+) -> Result<bool, VerifyEnd>
+    requires span { HasSpan (S.told store.old) at end (value_of_header header.now) }
+    requires found { IsFoundHead loading_reasons (S.bytes store.old) at header.now end }
+    requires small { header.now.data_size ≤ max_data_size }
+    ensures passed { IfOk result (λ unread. IfSome (S.bytes store.old)
+        (λ file. IsVerifiedIn unread_ok file at (record { end = end; header = header.now; unread = unread }))) }
     ensures refused { (fault : Fault) → result ≡ Err (VerifyEnd.Refused fault)
         → IfSome (S.bytes store.old) (λ file. IsVerdict unread_ok file at fault) }
     ensures store { OnlyAsks S.bytes S.told S.name S.faults (result ≡ Err VerifyEnd.Store) store.old store.new }
 {
-    let verified = verify_at(store, size, at)?;
-    if unread_ok || !verified.unread {
-        return Ok(verified);
+    let unread = verify_under(store, at, end, header)?;
+    if unread_ok || !unread {
+        return Ok(unread);
     }
-    Err(refused(at, why_unread(&verified.header)))
+    Err(refused(at, why_unread(header)))
 }
 
 /// Why a chunk is refused that would be left unread.

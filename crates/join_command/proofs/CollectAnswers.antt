@@ -19,8 +19,9 @@ use Rattle.show_command.specs.Readings.{refused_file_text}
 use Rattle.command_frame.proofs.AskedFiles.{within_or_past}
 use Rattle.join_command.specs.CollectCommand.{IsCollectAnswer, collected_answer, too_much_text}
 use Rattle.join_command.specs.CollectingEnds.{AreEachInReach}
-use Rattle.record_collect.specs.Batches.{in_turn, numbers_from}
-use Rattle.record_collect.proofs.Weaves.{in_turn-bounds, in_turn-woven, too_long_or_short}
+use Rattle.record_collect.specs.Batches.{in_turn}
+use Rattle.record_collect.proofs.Weaves.{too_long_or_short}
+use Rattle.join_command.proofs.InTurnWeaves.{in_turn-bounds, in_turn-woven, numbers_from}
 
 -- the answer to files whose records are gathered so
 pub is_whole : (files : List (List ℕ)) (made : GatheredValue) → AreEachInReach (map length files) → AreGatheredOf files made

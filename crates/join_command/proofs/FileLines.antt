@@ -7,7 +7,10 @@ use Rattle.std.proofs.lemmas.List.{append_assoc, append-nil, take_more}
 use Rattle.std.proofs.lemmas.List.Concat.{flat_map-append}
 use Rattle.std.proofs.lemmas.List.FromFn.{get_or-enumerate_from, length-enumerate_from}
 use Rattle.std.proofs.lemmas.Option.{get_or_from_slice_get, slice_get_within}
+use Rattle.record_collect.specs.declared.span.Span.{Span}
+use Rattle.record_collect.specs.Batches.{numbers_in, numbers_in_span}
 use Rattle.record_collect.proofs.InTurn.{range_next}
+use Rattle.number_shares.proofs.Lists.{all_back, all_front}
 use Rattle.join_command.specs.CollectCommand.{file_lines, place_line}
 
 -- the line of a file's record, by its number among all
@@ -56,3 +59,28 @@ in_range first (suc count) i most from to all = elim (cases_eq first i) [
   | inl same ↦ subst (λ (n : ℕ). n < most) same all.0
   | inr other ↦ in_range (first + 1) count i most (omega arith) (omega arith) all.1
 ]
+
+-- what holds of all numbers of spans holds of those of one
+pub within_span : (P : ℕ → Type 0) (spans : List Span) (i : ℕ) (span : Span) → slice_get spans i ≡ Some span → AllByRecursion P (numbers_in spans) → AllByRecursion P (numbers_in_span span)
+within_span P [] i span there all = absurd cc
+within_span P (s ∷ spans) zero span there all =
+    let same : s ≡ span = cc in
+    subst (λ (t : Span). AllByRecursion P (numbers_in_span t)) same (all_front P (numbers_in_span s) (numbers_in spans) all)
+within_span P (s ∷ spans) (suc i) span there all = within_span P spans i span there (all_back P (numbers_in_span s) (numbers_in spans) all)
+
+-- one span more
+pub span-next : (file : ℕ) (places before text next : List ℕ) (spans : List Span) (i : ℕ) (span : Span) → slice_get spans i ≡ Some span
+    → text ≡ before ++ file_lines places (file, numbers_in (take i spans)) → next ≡ text ++ file_lines places (file, numbers_in_span span)
+    → next ≡ before ++ file_lines places (file, numbers_in (take (i + 1) spans))
+span-next file places before text next spans i span there so_far is =
+    let lines : List ℕ = file_lines places (file, numbers_in (take i spans)) in
+    let more : List ℕ = file_lines places (file, numbers_in_span span) in
+    let numbers : numbers_in (take (i + 1) spans) ≡ numbers_in (take i spans) ++ numbers_in_span span =
+    ap numbers_in (take_more spans i span (slice_get_within spans i span there) ∙ ap (λ (s : Span). take i spans ++ s ∷ []) (get_or_from_slice_get spans i span span there))
+    ∙ flat_map-append numbers_in_span (take i spans) (span ∷ [])
+    ∙ ap (λ (ns : List ℕ). numbers_in (take i spans) ++ ns) (append-nil (numbers_in_span span)) in
+    is
+    ∙ ap (λ (t : List ℕ). t ++ more) so_far
+    ∙ append_assoc before lines more
+    ∙ ap (λ (t : List ℕ). before ++ t) (sym (flat_map-append (line_of file places) (numbers_in (take i spans)) (numbers_in_span span)))
+    ∙ ap (λ (ns : List ℕ). before ++ file_lines places (file, ns)) (sym numbers)

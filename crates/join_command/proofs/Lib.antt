@@ -8,4 +8,5 @@ pub mod CollectRuns
 pub mod CollectSteps
 mod CollectValues
 pub mod FileLines
+pub mod InTurnWeaves
 pub mod OneCollected

@@ -1,6 +1,6 @@
-ghost use Rattle.std.specs.Prelude.{◌≡◌, ◌++◌, ◌<◌, ◌∷◌, IfOk, OnOk, decimal, length};
+ghost use Rattle.std.specs.Prelude.{◌≡◌, ℕ, ◌++◌, ◌<◌, ◌∷◌, IfOk, OnOk, decimal, length};
 ghost use Rattle.std.specs.List.{AllByRecursion};
-ghost use Rattle.record_collect.specs.Batches.{numbers_in_span};
+ghost use Rattle.record_collect.specs.Batches.{numbers_in, numbers_in_span};
 ghost use Rattle.command_frame.specs.Answers.{line};
 ghost use Rattle.join_command.specs.CollectCommand.{collected_lines, file_lines, files_lines};
 
@@ -35,21 +35,42 @@ fn lines_at(
 {
     let mut text = Vec::new(alloc);
     for file in 0..files {
-        push_file(&mut text, file as u64, gathered.span(file), places)?;
+        push_file(&mut text, file as u64, gathered.spans(file), places)?;
     }
     Ok(text)
 }
 
 /// Appends a line for each record of a file, by their numbers among all that were gathered.
-fn push_file(text: &mut Vec<u8>, file: u64, span: Span, places: &Numbers) -> Result<(), AllocError>
-    requires { AllByRecursion (λ n. n < length places.now) (numbers_in_span span) }
-    ensures { OnOk result (text.new.items ≡ text.old.items ++ file_lines places.now (file, numbers_in_span span)) }
+fn push_file(
+    text: &mut Vec<u8>,
+    file: u64,
+    spans: &[Span],
+    places: &Numbers,
+) -> Result<(), AllocError>
+    requires { AllByRecursion (λ n. n < length places.now) (numbers_in spans.now) }
+    ensures { OnOk result (text.new.items ≡ text.old.items ++ file_lines places.now (file, numbers_in spans.now)) }
 {
     let mut buffer = Buffer::new();
     let file_number = buffer.format(file).as_bytes();
+    for i in 0..spans.len() {
+        push_span(text, file_number, spans[i], places)?;
+    }
+    Ok(())
+}
+
+/// Appends a line for each record of a span of numbers, with the number of its file.
+fn push_span(
+    text: &mut Vec<u8>,
+    file: &[u8],
+    span: Span,
+    places: &Numbers,
+) -> Result<(), AllocError>
+    requires { AllByRecursion (λ n. n < length places.now) (numbers_in_span span) }
+    ensures { (number : ℕ) → file.now ≡ decimal number
+        → OnOk result (text.new.items ≡ text.old.items ++ file_lines places.now (number, numbers_in_span span)) }
+{
     for number in span.first..span.first + span.count {
-        let place = places.get(number as usize);
-        push_place(text, file_number, place)?;
+        push_place(text, file, places.get(number as usize))?;
     }
     Ok(())
 }

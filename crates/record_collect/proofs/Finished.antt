@@ -1,4 +1,4 @@
--- What a sort makes of the records of all passes.
+-- What a sort makes of the batches of all passes.
 use Rattle.std.proofs.Common.{◌≡◌, ◌∙◌, ℕ, zero, suc, ◌+◌, ◌<◌, ◌≤◌, ◌⊎◌, Bool, true, false, cond, List, [], ◌∷◌, map, All, refl, sym, ap, subst, inl, inr, arith}
 use Rattle.std.specs.List.{AllByRecursion, filter, slice_index}
 use Rattle.std.specs.List.Sorted.{IsPermutation, IsNonDecreasingBy}
@@ -7,13 +7,13 @@ use Rattle.std.proofs.lemmas.List.Sorted.{All-permutation, IsPermutation-map, Is
 use mathlib.Core.Option.{some}
 use lib.ListN.{get_elem?}
 use Rattle.atomic_table.specs.Table.{State}
-use Rattle.simple_chunk.specs.Costs.{cost}
+use Rattle.simple_chunk.specs.Costs.{cost_of}
 use Rattle.number_shares.specs.Once.{HasEachBelow}
 use Rattle.number_shares.proofs.Counting.{once_below, once_below-no, times-each_below}
 use Rattle.number_shares.proofs.Lists.{all_map}
 use Rattle.number_shares.specs.declared.table.SeatView.{SeatView}
 use Rattle.number_shares.specs.declared.table.Terms.{Terms}
-use Rattle.record_collect.specs.declared.collector.Accepted.{Accepted}
+use Rattle.record_collect.specs.declared.collector.Batch.{Batch}
 use Rattle.record_collect.specs.declared.placed.Placed.{Placed}
 use Rattle.number_shares.specs.Machine.{IsHand, IsMine, numbers_taken}
 use Rattle.record_collect.specs.Puts.{puts}
@@ -22,7 +22,7 @@ use Rattle.number_shares.specs.Rule.{IsKept, hand_of}
 use Rattle.record_collect.specs.Passes.{Rises}
 use Rattle.record_collect.specs.Orders.{ReceiptsAddUp, of_pass, piece_at, place_in}
 use Rattle.number_shares.proofs.Pieces.{covers, held, held-append, held-sum}
-use Rattle.record_collect.proofs.PassLemmas.{all_of_map}
+use Rattle.record_collect.proofs.PassLemmas.{all_of_map, all_to_map}
 use Rattle.number_shares.proofs.Tables.{closed}
 use Rattle.record_collect.proofs.Laid.{IsOrdered, IsTiled, tiled}
 
@@ -46,7 +46,7 @@ ordered (e ∷ es) up = (
   ordered es (λ i j d le lt. up (suc i) (suc j) d (omega arith) (omega arith)),
 )
 
--- what a sort of the records makes, where the table was closed
+-- what a sort of the batches makes, where the table was closed
 pub record IsSortedOut (word : ℕ) (es : List Placed) (v : SeatView) : Type 0 where
   pub tiles : IsTiled 0 word es v.past
   pub mine : AllByRecursion (λ e. IsMine puts (piece_at e)) es
@@ -81,22 +81,22 @@ AllRise (e ∷ es) = AllByRecursion (λ f. e.at < f.at) es × AllRise es
 
 laid_from : (at : ℕ) (es : List Placed) → ReceiptsAddUp at es → AllByRecursion (λ f. at ≤ f.at) es
 laid_from at [] laid = tt
-laid_from at (e ∷ es) laid = (omega (arith, laid.0), all_map (λ f. at + cost e.bytes ≤ f.at) (λ f. at ≤ f.at) es (λ f g. omega (arith, g)) (laid_from (at + cost e.bytes) es laid.1))
+laid_from at (e ∷ es) laid = (omega (arith, laid.0), all_map (λ f. at + cost_of e.records ≤ f.at) (λ f. at ≤ f.at) es (λ f g. omega (arith, g)) (laid_from (at + cost_of e.records) es laid.1))
 
-laid_rises : (at : ℕ) (es : List Placed) → ReceiptsAddUp at es → AllRise es
-laid_rises at [] laid = tt
-laid_rises at (e ∷ es) laid = (
-  all_map (λ f. at + cost e.bytes ≤ f.at) (λ f. e.at < f.at) es (λ f g. omega (arith, g, laid.0)) (laid_from (at + cost e.bytes) es laid.1),
-  laid_rises (at + cost e.bytes) es laid.1,
+laid_rises : (at : ℕ) (es : List Placed) → ReceiptsAddUp at es → AllByRecursion (λ e. IsMine puts (piece_at e)) es → AllRise es
+laid_rises at [] laid mine = tt
+laid_rises at (e ∷ es) laid mine = (
+  all_map (λ f. at + cost_of e.records ≤ f.at) (λ f. e.at < f.at) es (λ f g. omega (arith, g, laid.0, mine.0.some)) (laid_from (at + cost_of e.records) es laid.1),
+  laid_rises (at + cost_of e.records) es laid.1 mine.1,
 )
 
-mine_rises : (i : ℕ) (es : List Accepted) → Rises es → AllRise (map (place_in i) es)
-mine_rises i [] rises = tt
-mine_rises i (e ∷ es) rises = (above i e es rises.0, mine_rises i es rises.1)
-  where
-    above : (i : ℕ) (e : Accepted) (es : List Accepted) → AllByRecursion (λ f. e.at < f.at) es → AllByRecursion (λ f. e.at < f.at) (map (place_in i) es)
-    above i e [] all = tt
-    above i e (f ∷ es) all = (all.0, above i e es all.1)
+mine_rises : (i : ℕ) (bs : List Batch) → Rises bs → AllByRecursion (λ e. IsMine puts (piece_at e)) (map (place_in i) bs) → AllRise (map (place_in i) bs)
+mine_rises i [] rises mine = tt
+mine_rises i (b ∷ bs) rises mine = (
+  all_to_map (λ e. b.at < e.at) (place_in i) bs
+      (all_map (λ c. b.at + cost_of b.records ≤ c.at) (λ c. b.at < c.at) bs (λ c g. omega (arith, g, mine.0.some)) rises.0),
+  mine_rises i bs rises.1 mine.1,
+)
 
 -- what passes a test
 all_filter : (P : Placed → Type 0) (test : Placed → Bool) (es : List Placed) → AllByRecursion P es → AllByRecursion P (filter test es)
@@ -154,10 +154,13 @@ same_rising (x ∷ xs) (y ∷ ys) up up' to back =
     rest P n [] later all = tt
     rest P n (e ∷ es) later all = (elim all.0 [ inl same ↦ absurd (omega (arith, later.0)) | inr holds ↦ holds ], rest P n es later.1 all.1)
 
-pub of_pass_sorted : (i : ℕ) (mine : List Accepted) (all es : List Placed) → of_pass i all ≡ map (place_in i) mine → Rises mine → ReceiptsAddUp 0 es → IsPermutation all es
-    → of_pass i es ≡ map (place_in i) mine
-of_pass_sorted i mine all es placed rises laid moved =
+pub of_pass_sorted : (i : ℕ) (mine : List Batch) (all es : List Placed) → of_pass i all ≡ map (place_in i) mine → Rises mine
+    → ReceiptsAddUp 0 es → AllByRecursion (λ e. IsMine puts (piece_at e)) es → IsPermutation all es → of_pass i es ≡ map (place_in i) mine
+of_pass_sorted i mine all es placed rises laid pieces moved =
     let test : Placed → Bool = λ e. eqb e.pass i in
-    same_rising (of_pass i es) (map (place_in i) mine) (rises_filter test es (laid_rises 0 es laid)) (mine_rises i mine rises)
+    let own : AllByRecursion (λ e. IsMine puts (piece_at e)) (map (place_in i) mine) =
+    subst (AllByRecursion (λ (e : Placed). IsMine puts (piece_at e))) placed
+    (all_filter (λ e. IsMine puts (piece_at e)) test all (all_permuted (λ e. IsMine puts (piece_at e)) es all (IsPermutation-sym all es moved) pieces)) in
+    same_rising (of_pass i es) (map (place_in i) mine) (rises_filter test es (laid_rises 0 es laid pieces)) (mine_rises i mine rises own)
     (λ P h. subst (AllByRecursion P) placed (untested P test all (all_permuted (λ e. test e ≡ true → P e) es all (IsPermutation-sym all es moved) (tested P test es h))))
     (λ P h. untested P test es (all_permuted (λ e. test e ≡ true → P e) all es moved (tested P test all (subst (AllByRecursion P) (sym placed) h))))

@@ -1,15 +1,13 @@
 -- Lists of records, one list behind another, list by list.
 use Rattle.std.proofs.Common.{◌≡◌, ◌∙◌, ℕ, zero, suc, ◌+◌, ◌*◌, ◌-◌, ◌<◌, ◌≤◌, List, [], ◌∷◌, ◌++◌, Some, length, take, get_or, sym, ap, subst, arith}
 use Rattle.std.specs.Prelude.{slice_get}
-use Rattle.std.specs.List.{range_with_len, sum_by}
-use Rattle.std.proofs.lemmas.List.{append-nil, length-append, take_more}
+use Rattle.std.specs.List.{range_with_len}
+use Rattle.std.proofs.lemmas.List.{append-nil, take_more}
 use Rattle.std.proofs.lemmas.List.Concat.{flat_map-append}
-use Rattle.std.proofs.lemmas.List.Sums.{sum_by-append, sum_by-cons}
+use Rattle.std.proofs.lemmas.List.Sums.{sum_by-cons}
 use Rattle.std.proofs.lemmas.Option.{slice_get_within, get_or_from_slice_get}
 use Rattle.simple_chunk.specs.Costs.{cost, cost_of}
-use Rattle.record_collect.specs.Batches.{HasLong, in_turn, numbers_from}
-use Rattle.record_collect.specs.Limits.{limit}
-use Rattle.record_collect.proofs.Weaves.{cost-in_turn}
+use Rattle.record_collect.specs.Batches.{HasLong, in_turn}
 
 -- one list more, behind others
 pub turn_push : (lists : List (List (List ℕ))) (list : List (List ℕ)) → in_turn (lists ++ list ∷ []) ≡ in_turn lists ++ list
@@ -25,28 +23,6 @@ turn_next lists k list within is =
 pub few_records : (records : List (List ℕ)) → 8 * length records ≤ cost_of records
 few_records [] = omega arith
 few_records (r ∷ records) = omega (arith, sum_by-cons cost r records, few_records records)
-
--- the numbers of one list more
-pub numbers_push : (at : ℕ) (lists : List (List (List ℕ))) (list : List (List ℕ))
-    → numbers_from at (lists ++ list ∷ []) ≡ numbers_from at lists ++ range_with_len (at + length (in_turn lists)) (length list) ∷ []
-numbers_push at [] list = let here : at ≡ at + 0 = omega arith in ap (λ (n : ℕ). range_with_len n (length list) ∷ []) here
-numbers_push at (first ∷ lists) list =
-    let long : length (in_turn (first ∷ lists)) ≡ length first + length (in_turn lists) = length-append first (in_turn lists) in
-    let on : at + length first + length (in_turn lists) ≡ at + length (in_turn (first ∷ lists)) = omega (arith, long) in
-    ap (λ (l : List (List ℕ)). range_with_len at (length first) ∷ l)
-    (numbers_push (at + length first) lists list
-    ∙ ap (λ (n : ℕ). numbers_from (at + length first) lists ++ range_with_len n (length list) ∷ []) on)
-
--- lists of which these are the first have at most so many records as all may
-pub records_within : (lists rest all : List (List (List ℕ))) → lists ++ rest ≡ all → sum_by cost_of all ≤ limit → 8 * length (in_turn lists) ≤ limit
-records_within lists rest all is most =
-    omega (
-      arith,
-      few_records (in_turn lists),
-      cost-in_turn lists,
-      sum_by-append cost_of lists rest,
-      ap (sum_by cost_of) is,
-    )
 
 -- one record more of a list
 pub take_next : (list : List (List ℕ)) (i : ℕ) (r : List ℕ) → slice_get list i ≡ Some r → take (i + 1) list ≡ take i list ++ r ∷ []

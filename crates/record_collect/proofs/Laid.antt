@@ -9,12 +9,12 @@ use Rattle.record_collect.specs.declared.placed.Placed.{Placed}
 use Rattle.number_shares.specs.Machine.{IsMine, IsPast}
 use Rattle.record_collect.specs.Limits.{limit}
 use Rattle.record_collect.specs.Puts.{puts}
-use Rattle.simple_chunk.specs.Costs.{cost}
+use Rattle.simple_chunk.specs.Costs.{cost_of}
 use Rattle.record_collect.specs.Orders.{ReceiptsAddUp, cost_of_placed, piece_at}
 use Rattle.number_shares.proofs.PastPieces.{once-le, once-below, once-past, held-grows}
 use Rattle.number_shares.proofs.Pieces.{covers, held, held-cons, times-range-below, times-range-inside, times-range-more}
 
--- records in the order of their receipts
+-- batches in the order of their receipts
 abbrev pub IsOrdered : List Placed → Type 0
 IsOrdered [] = Unit {0}
 IsOrdered (e ∷ es) = AllByRecursion (λ f. e.at ≤ f.at) es × IsOrdered es
@@ -23,21 +23,21 @@ IsOrdered (e ∷ es) = AllByRecursion (λ f. e.at ≤ f.at) es × IsOrdered es
 held-before : (p q : ℕ) (es : List Placed) → p < q → AllByRecursion (λ f. q ≤ f.at) es → held p (map piece_at es) ≡ 0
 held-before p q [] below all = refl
 held-before p q (e ∷ es) below all =
-    omega (arith, held-cons p (piece_at e) (map piece_at es), times-range-below p e.at (cost e.bytes) (omega (arith, all.0)), held-before p q es below all.1)
+    omega (arith, held-cons p (piece_at e) (map piece_at es), times-range-below p e.at (cost_of e.records) (omega (arith, all.0)), held-before p q es below all.1)
 
--- what is known of records in order: each has as its receipt what those before it cost, and the pieces that end above the limit hold the rest
+-- what is known of batches in order: each has as its receipt what those before it cost, and the pieces that end above the limit hold the rest
 pub record IsTiled (from to : ℕ) (es : List Placed) (past : List Piece) : Type 0 where
   pub laid : ReceiptsAddUp from es
   pub within : from + cost_of_placed es ≤ to
   pub rest : (p : ℕ) → held p past + once_below (from + cost_of_placed es) p ≡ once_below to p
 
--- the first record stands where the numbers begin
+-- the first batch stands where the numbers begin
 first_at : (from to : ℕ) (e : Placed) (es : List Placed) (past : List Piece) → from ≤ to
     → AllByRecursion (λ f. e.at ≤ f.at) es → IsMine puts (piece_at e) → AllByRecursion (IsPast puts) past
     → ((p : ℕ) → held p (map piece_at (e ∷ es)) + held p past + once_below from p ≡ once_below to p)
     → e.at ≡ from
 first_at from to e es past up ordered mine over each =
-    let own : ℕ = cost e.bytes in
+    let own : ℕ = cost_of e.records in
     let here : covers e.at (piece_at e) ≡ 1 = times-range-inside e.at e.at own (omega arith) (omega (arith, mine.some)) in
     let cut : held e.at (map piece_at (e ∷ es)) ≡ covers e.at (piece_at e) + held e.at (map piece_at es) = held-cons e.at (piece_at e) (map piece_at es) in
     let alone : (once_below to e.at ≡ 1) × (once_below from e.at ≡ 0) × (held e.at past ≡ 0) =
@@ -60,7 +60,7 @@ tiled from to [] past up ordered mine over each =
     let none : from ≡ from + cost_of_placed [] = omega arith in
     record { laid = tt; within = omega arith; rest = λ p. subst (λ (n : ℕ). held p past + once_below n p ≡ once_below to p) none (omega (arith, each p)) }
 tiled from to (e ∷ es) past up ordered mine over each =
-    let own : ℕ = cost e.bytes in
+    let own : ℕ = cost_of e.records in
     let at : e.at ≡ from = first_at from to e es past up ordered.0 mine.0 over each in
     let last : ℕ = e.at + (own - 1) in
     let big : 8 ≤ own = mine.0.some in
@@ -68,7 +68,7 @@ tiled from to (e ∷ es) past up ordered mine over each =
     let after : (p : ℕ) → held p (map piece_at es) + held p past + once_below (from + own) p ≡ once_below to p =
     λ p. omega (arith, each p, held-cons p (piece_at e) (map piece_at es), times-range-more p e.at own, ap (λ n. once_below n p) at, ap (λ n. once_below (n + own) p) at) in
     let t : IsTiled (from + own) to es past = tiled (from + own) to es past (omega arith) ordered.1 mine.1 over after in
-    let sum : cost_of_placed (e ∷ es) ≡ own + cost_of_placed es = sum_by-cons (λ (f : Placed). cost f.bytes) e es in
+    let sum : cost_of_placed (e ∷ es) ≡ own + cost_of_placed es = sum_by-cons (λ (f : Placed). cost_of f.records) e es in
     let total : from + own + cost_of_placed es ≡ from + cost_of_placed (e ∷ es) = omega arith in
     record {
       laid = (at, t.laid);
@@ -80,4 +80,4 @@ tiled from to (e ∷ es) past up ordered mine over each =
 pub laid_most : (at : ℕ) (es : List Placed) → at ≤ limit → ReceiptsAddUp at es → AllByRecursion (λ e. IsMine puts (piece_at e)) es → at + cost_of_placed es ≤ limit
 laid_most at [] low laid mine = omega arith
 laid_most at (e ∷ es) low laid mine =
-    omega (arith, sum_by-cons (λ (f : Placed). cost f.bytes) e es, laid_most (at + cost e.bytes) es (omega (arith, laid.0, mine.0.ends)) laid.1 mine.1)
+    omega (arith, sum_by-cons (λ (f : Placed). cost_of f.records) e es, laid_most (at + cost_of e.records) es (omega (arith, laid.0, mine.0.ends)) laid.1 mine.1)

@@ -3,46 +3,49 @@ use Rattle.std.proofs.Common.{◌≡◌, List, [], ◌∷◌, replicate, lit≤,
 use Rattle.varint_wire.specs.Varint.{shortest}
 use Rattle.block_layout.specs.Layout.{chunk_end_of, end_of}
 use Rattle.record_group.specs.Groups.{groups}
-use Rattle.record_collect.specs.declared.coverage.Coverage.TheVariants.{Whole, TooLong, NoRoom}
 use Rattle.record_collect.specs.declared.placed.Placed.{Placed}
 use Rattle.record_collect.specs.FilePlaces.{places_in_file}
 use Rattle.record_collect.specs.Gatherings.{GatheredValue}
 use Rattle.record_collect.specs.Orders.{ReceiptsAddUp, cost_of_placed, gathered_of}
+use Rattle.record_collect.specs.Passes.{receipts_from}
 use Rattle.number_shares.specs.Least.{IsLeast}
 use Rattle.number_shares.specs.Machine.{AreTakes, Machine, empty_hand, start_of, taken}
 use Rattle.record_collect.specs.Limits.{limit}
 use Rattle.record_collect.specs.Puts.{puts}
-use Rattle.record_collect.specs.Takings.{both_taken}
 
--- the first pass puts `a`, the second `bc`, and the first an empty record: they cost 9, 10 and 8
+-- the first pass puts `a` and `bc` together, the second an empty record, and the first that again: they cost 19, 8 and 8
 letters : List Placed
 letters =
-    record { at = 0; pass = 0; bytes = 0x61 ∷ [] }
-    ∷ record { at = 9; pass = 1; bytes = 0x62 ∷ 0x63 ∷ [] }
-    ∷ record { at = 19; pass = 0; bytes = [] }
+    record { at = 0; pass = 0; records = (0x61 ∷ []) ∷ (0x62 ∷ 0x63 ∷ []) ∷ [] }
+    ∷ record { at = 19; pass = 1; records = [] ∷ [] }
+    ∷ record { at = 27; pass = 0; records = [] ∷ [] }
     ∷ []
 
 receipts : ReceiptsAddUp 0 letters
 unfolding letters
 receipts = (refl, (refl, (refl, tt)))
 
-costs : cost_of_placed letters ≡ 27
+costs : cost_of_placed letters ≡ 35
 unfolding letters
 costs = refl
 
 -- a receipt that told the length of the records before would be no receipt
-receipts_of_lengths : ¬ ReceiptsAddUp 0 (record { at = 0; pass = 0; bytes = 0x61 ∷ [] } ∷ record { at = 1; pass = 1; bytes = [] } ∷ [])
+receipts_of_lengths : ¬ ReceiptsAddUp 0 (record { at = 0; pass = 0; records = (0x61 ∷ []) ∷ [] } ∷ record { at = 1; pass = 1; records = [] ∷ [] } ∷ [])
 receipts_of_lengths laid = absurd (cc)
+
+-- each record of a batch has a receipt of its own
+batch_receipts : receipts_from 27 ((0x61 ∷ []) ∷ (0x62 ∷ 0x63 ∷ []) ∷ [] ∷ []) ≡ 27 ∷ 36 ∷ 46 ∷ []
+batch_receipts = refl
 
 -- the list of all, and the numbers of each pass; a third pass puts nothing
 three : GatheredValue
-three = record { records = (0x61 ∷ []) ∷ (0x62 ∷ 0x63 ∷ []) ∷ [] ∷ []; numbers = (0 ∷ 2 ∷ []) ∷ (1 ∷ []) ∷ [] ∷ [] }
+three = record { records = (0x61 ∷ []) ∷ (0x62 ∷ 0x63 ∷ []) ∷ [] ∷ [] ∷ []; numbers = (0 ∷ 1 ∷ 3 ∷ []) ∷ (2 ∷ []) ∷ [] ∷ [] }
 
 gathered : gathered_of letters 3 ≡ three
 unfolding letters three
 gathered = refl
 
--- the same step by step: the number that comes next, and what each pass has
+-- three puts of one record each, step by step: the number that comes next, and what each pass has
 first_put : Machine
 first_put = record { word = 9; hands = record { mine = record { at = 0; cost = 9 } ∷ []; past = [] } ∷ empty_hand ∷ [] }
 
@@ -98,6 +101,10 @@ at_the_limit = refl
 past_the_limit : taken limit (record { at = 67108857; cost = 8 }) empty_hand ≡ record { mine = []; past = record { at = 67108857; cost = 8 } ∷ [] }
 past_the_limit = refl
 
+-- records that cost more than the limit end above it wherever they begin
+most_of_all : taken limit (record { at = 0; cost = 67108865 }) empty_hand ≡ record { mine = []; past = record { at = 0; cost = 67108865 } ∷ [] }
+most_of_all = refl
+
 -- where two passes ended, the collected records cost the lesser of the numbers
 least : IsLeast 50331672 (67108865 ∷ 50331672 ∷ [])
 least = record { all = (lit≤ tt, (lit≤ tt, tt)); one = (1, refl) }
@@ -120,9 +127,3 @@ places_over_a_block = refl
 places_at_a_block : places_in_file (replicate 65427 0x61 ∷ (0x62 ∷ []) ∷ (0x63 ∷ []) ∷ []) 1 ≡ 64 ∷ 65536 ∷ 65604 ∷ []
 unfolding groups chunk_end_of end_of shortest
 places_at_a_block = refl
-
--- of two files all is taken only where it is of both, a record that is too long counts more than want of room, and what there was
--- no room for is added up
-taken_of_two : (both_taken Whole Whole ≡ Whole) × (both_taken Whole (NoRoom 9) ≡ NoRoom 9) × (both_taken (NoRoom 9) Whole ≡ NoRoom 9)
-    × (both_taken (NoRoom 9) TooLong ≡ TooLong) × (both_taken TooLong (NoRoom 9) ≡ TooLong) × (both_taken (NoRoom 9) (NoRoom 8) ≡ NoRoom 17)
-taken_of_two = (refl, refl, refl, refl, refl, refl)

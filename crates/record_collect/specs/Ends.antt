@@ -1,17 +1,15 @@
 -- Inside. How gathering ends, and what it says of files and passes then. Own.
-use Rattle.std.specs.Prelude.{◌≡◌, ℕ, ◌+◌, ◌<◌, ◌⊎◌, false, Some, Result, Ok, Err, List, slice_get}
-use Rattle.std.specs.List.{AllByRecursion, sum_by}
-use Rattle.simple_chunk.specs.Costs.{cost_of}
+use Rattle.std.specs.Prelude.{◌≡◌, ℕ, ◌⊎◌, Bool, false, true, Some, Result, Ok, Err, List, slice_get}
+use Rattle.std.specs.List.{AllByRecursion, AllZip}
 use Rattle.chunk_reader.specs.Faults.{IsFirstFault}
 use Rattle.chunk_reader.specs.declared.reasons.Fault.{Fault}
 use Rattle.chunk_reader.specs.declared.reasons.ReadEnd.{ReadEnd}
 use Rattle.chunk_reader.specs.declared.reasons.ReadEnd.TheVariants as read
 use Rattle.record_collect.specs.Gatherings.{AreGatheredOf, GatheredValue, IsInBounds, IsTooMuch}
-use Rattle.record_collect.specs.Batches.{in_one}
-use Rattle.record_collect.specs.Limits.{limit}
-use Rattle.record_collect.specs.Takings.{AreRead, IsFirstStopped, IsRead, cost_unheld}
-use Rattle.record_collect.specs.declared.coverage.Coverage.{Coverage}
-use Rattle.record_collect.specs.declared.coverage.Coverage.TheVariants.{Whole, TooLong}
+use Rattle.record_collect.specs.Passes.{AreGathered, PassValue}
+use Rattle.record_collect.specs.Takings.{IsFirstStopped, IsRead}
+use Rattle.record_collect.specs.declared.feeding.Fed.{Fed}
+use Rattle.record_collect.specs.declared.feeding.Fed.TheVariants.{Whole, Full, TooLong}
 use Rattle.record_collect.specs.declared.gathering.GatherEnd.{GatherEnd}
 use Rattle.record_collect.specs.declared.gathering.GatherEnd.TheVariants as gather
 
@@ -29,34 +27,39 @@ IsGatheredOf (Err gather.TooMuch) files = IsTooMuch files
 IsGatheredOf (Err gather.Store) files = Unit {0}
 IsGatheredOf (Err gather.Memory) files = Unit {0}
 
--- how the records held of files end up in one: they are too much, or stand one file behind another
-abbrev pub IsJoinedBy : Result GatheredValue GatherEnd → List (List (List ℕ)) → Type 0
-IsJoinedBy (Ok made) files = (made ≡ in_one files) × IsInBounds made
-IsJoinedBy (Err gather.TooMuch) files = limit < sum_by cost_of files
-IsJoinedBy (Err gather.Memory) files = Unit {0}
-IsJoinedBy (Err other) files = ⊥
-
--- how they end up where others, which cost at least so much, aren't held
-abbrev pub IsUnheld : List (List (List ℕ)) → ℕ → GatherEnd → Type 0
-IsUnheld files cost gather.TooMuch = limit < cost + sum_by cost_of files
-IsUnheld files cost gather.Memory = Unit {0}
-IsUnheld files cost other = ⊥
-
 -- and in one list: they are these, unless memory was short
 abbrev pub IsInOneList : Result GatheredValue GatherEnd → GatheredValue → Type 0
 IsInOneList (Ok made) all = made ≡ all
 IsInOneList (Err gather.Memory) all = Unit {0}
 IsInOneList (Err other) all = ⊥
 
--- and what is held of files, and the answers of their stores
-abbrev pub IsGatheredBy : Result GatheredValue GatherEnd → List (List (List ℕ)) → List (Result Coverage ReadEnd) → Type 0
-IsGatheredBy (Ok made) files answers = AreRead answers Whole × (made ≡ in_one files) × IsInBounds made
-IsGatheredBy (Err (gather.Refused index fault)) files answers = IsFirstStopped answers index (read.Refused fault)
-IsGatheredBy (Err gather.TooMuch) files answers =
+-- these are the passes by which files were read to their ends, and whether the pass ended or not
+abbrev pub IsPassOf : Result Fed ReadEnd → PassValue → Type 0
+IsPassOf answer pass = (answer ≡ Ok (Whole pass)) ⊎ (answer ≡ Ok (Full pass))
+
+-- these are the passes of files that were all read to their ends, and whether none of the passes ended
+pub record ArePassesOf (answers : List (Result Fed ReadEnd)) (passes : List PassValue) (are_whole : Bool) : Type 0 where
+  pub each : AllZip IsPassOf answers passes
+  pub whole : are_whole ≡ true → AllZip (λ answer pass. answer ≡ Ok (Whole pass)) answers passes
+  pub full : are_whole ≡ false → (i : ℕ) × (pass : PassValue) × (slice_get answers i ≡ Some (Ok (Full pass)))
+
+-- files were gathered into this by these passes
+pub record AreGatheredBy (answers : List (Result Fed ReadEnd)) (passes : List PassValue) (made : GatheredValue) : Type 0 where
+  pub each : AllZip IsPassOf answers passes
+  pub are : AreGathered passes made
+  pub bounds : IsInBounds made
+
+-- and what is held of files
+abbrev pub IsGatheredBy : Result GatheredValue GatherEnd → List (Result Fed ReadEnd) → Type 0
+IsGatheredBy (Ok made) answers =
+    (passes : List PassValue) × AreGatheredBy answers passes made × AllZip (λ answer pass. answer ≡ Ok (Whole pass)) answers passes
+IsGatheredBy (Err (gather.Refused index fault)) answers = IsFirstStopped answers index (read.Refused fault)
+IsGatheredBy (Err gather.TooMuch) answers =
     AllByRecursion IsRead answers
-    × (((i : ℕ) × (slice_get answers i ≡ Some (Ok TooLong))) ⊎ (limit < sum_by cost_unheld answers + sum_by cost_of files))
-IsGatheredBy (Err gather.Store) files answers = (i : ℕ) × (slice_get answers i ≡ Some (Err read.Store))
-IsGatheredBy (Err gather.Memory) files answers = Unit {0}
+    × (((i : ℕ) × (slice_get answers i ≡ Some (Ok TooLong)))
+    ⊎ ((passes : List PassValue) × (made : GatheredValue) × (i : ℕ) × (pass : PassValue) × AreGatheredBy answers passes made × (slice_get answers i ≡ Some (Ok (Full pass)))))
+IsGatheredBy (Err gather.Store) answers = (i : ℕ) × (slice_get answers i ≡ Some (Err read.Store))
+IsGatheredBy (Err gather.Memory) answers = Unit {0}
 
 -- the first file with a fault is told, and that the records are too much, unless a store or memory failed
 pub record TellsFirst (result : Result GatheredValue GatherEnd) (files : List (List ℕ)) : Type 0 where

@@ -1,24 +1,40 @@
-//! The records of files in the batches that they were read in.
-ghost use Rattle.std.specs.Prelude.{◌≡◌, ◌++◌, ◌<◌, ◌≤◌, Some, IfOk, OnOk, length, map, slice_get};
-ghost use Rattle.std.specs.List.{sum_by};
-ghost use Rattle.simple_chunk.specs.Costs.{cost_of};
-ghost use Rattle.record_collect.specs.Batches.{in_one, in_turn, numbers_in_span};
+//! Collected records in the batches that they were put in.
+ghost use Rattle.std.specs.Prelude.{◌≡◌, ◌++◌, ◌<◌, ◌≤◌, ◌^◌, Some, IfOk, OnOk, length, map, slice_get};
+ghost use Rattle.std.specs.List.{AllByRecursion, range_with_len};
+ghost use Rattle.record_collect.specs.Batches.{in_turn, numbers_in, numbers_in_span};
 ghost use Rattle.record_collect.specs.Gatherings.{IsInBounds};
 ghost use Rattle.record_collect.specs.Limits.{limit};
+ghost use Rattle.record_collect.specs.Orders.{cost_of_placed, gathered_of, places_of};
+ghost use Rattle.record_collect.specs.Passes.{IsShort};
 
-use crate::file_batches::FileBatches;
 use crate::gathered::Numbers;
+use crate::placed::{Placed, lists_alone, spans_of};
 use crate::span::Span;
 use simple_chunk::Records;
 use std::alloc::{AllocError, Global};
 use std::marker::Model;
 
-/// Gathered records in the batches that they were read in, and for each file the numbers of its records, which are neighbours.
-/// Each record has at most 2^24 bytes, and all together cost at most 2^26. Own.
+/// The numbers of the records of a pass, each batch's as one span.
+#[derive(Debug, Drop)]
+struct Spans {
+    spans: Vec<Span>,
+}
+
+impl Model for Spans {
+    ghost use Rattle.std.specs.Prelude.{ℕ, List};
+    ghost use Rattle.record_collect.specs.Batches.{numbers_in};
+
+    ghost Value = { List ℕ };
+
+    ghost view = { λ s. numbers_in s.spans.items };
+}
+
+/// Collected records in the batches that they were put in, and for each pass or store the numbers of its records. Each record
+/// has at most 2^24 bytes, and all together cost at most 2^26. Own.
 #[derive(Debug, Drop)]
 pub struct Batches {
     batches: Vec<Records>,
-    spans: Vec<Span>,
+    numbers: Vec<Spans>,
 }
 
 impl Model for Batches {
@@ -27,27 +43,21 @@ impl Model for Batches {
 
     ghost Value = { GatheredValue };
 
-    ghost view = { λ b. gathered_in b.batches.items b.spans.items };
+    ghost view = { λ b. gathered_in b.batches.items b.numbers.items };
 
-    ghost invariant = { λ b. IsInBounds (gathered_in b.batches.items b.spans.items) };
+    ghost invariant = { λ b. IsInBounds (gathered_in b.batches.items b.numbers.items) };
 }
 
 impl Batches {
-    /// The records of files, those of one behind those of another.
-    pub(crate) fn of_files(alloc: Global, files: Vec<FileBatches>) -> Result<Batches, AllocError>
-        requires { sum_by cost_of files.items ≤ limit }
-        ensures { IfOk result (λ made. made ≡ in_one files.items) }
+    /// The batches of so many passes, in their order.
+    pub(crate) fn of(alloc: Global, all: Vec<Placed>, passes: usize) -> Result<Batches, AllocError>
+        requires short { AllByRecursion (λ e. IsShort e.records) all.items }
+        requires most { cost_of_placed all.items ≤ limit }
+        ensures { IfOk result (λ made. made ≡ gathered_of all.items passes) }
     {
-        let mut batches = Vec::new(alloc);
-        let mut spans = Vec::with_capacity(alloc, files.len())?;
-        let mut first = 0;
-        for file in files {
-            let count = file.count;
-            spans.push(Span { first, count })?;
-            first += count;
-            move_all(&mut batches, file.batches)?;
-        }
-        Ok(Batches { batches, spans })
+        let numbers = spans_of_each(alloc, &all, passes)?;
+        let batches = lists_alone(alloc, all)?;
+        Ok(Batches { batches, numbers })
     }
 
     /// The batches. Joined they are all records.
@@ -58,12 +68,12 @@ impl Batches {
         self.batches.as_slice()
     }
 
-    /// The numbers of the records of the file of this number, which counts from 0.
-    pub fn span(&self, i: usize) -> Span
+    /// The numbers of the records of the pass or store of this number, which counts from 0. They rise.
+    pub fn spans(&self, i: usize) -> &[Span]
         requires { i < length self.now.numbers }
-        ensures { slice_get self.now.numbers i ≡ Some (numbers_in_span result) }
+        ensures { slice_get self.now.numbers i ≡ Some (numbers_in result.now) }
     {
-        self.spans[i]
+        self.numbers[i].spans.as_slice()
     }
 
     /// All records in one list.
@@ -74,12 +84,25 @@ impl Batches {
         records_in(alloc, &self.batches)
     }
 
-    /// The numbers of each file's records.
+    /// The numbers of the records of each pass or store.
     pub(crate) fn numbers(&self, alloc: Global) -> Result<Vec<Numbers>, AllocError>
         ensures { IfOk result (λ each. each.items ≡ self.now.numbers) }
     {
-        numbers_in_each(alloc, &self.spans)
+        numbers_of_each(alloc, &self.numbers)
     }
+}
+
+/// The numbers of the records of each of so many passes.
+fn spans_of_each(alloc: Global, all: &[Placed], passes: usize) -> Result<Vec<Spans>, AllocError>
+    requires { cost_of_placed all.now ≤ limit }
+    ensures { IfOk result (λ each. each.items ≡ map (λ pass. places_of pass 0 all.now) (range_with_len 0 passes)) }
+{
+    let mut each = Vec::new(alloc);
+    for pass in 0..passes {
+        let spans = spans_of(alloc, all, pass)?;
+        each.push(Spans { spans })?;
+    }
+    Ok(each)
 }
 
 /// The records of batches in one list.
@@ -103,34 +126,34 @@ fn push_batch(records: &mut Records, batch: &Records) -> Result<(), AllocError>
     Ok(())
 }
 
-/// The numbers of each span.
-fn numbers_in_each(alloc: Global, spans: &[Span]) -> Result<Vec<Numbers>, AllocError>
-    ensures { IfOk result (λ each. each.items ≡ map numbers_in_span spans.now) }
+/// The numbers of each pass, one by one.
+fn numbers_of_each(alloc: Global, all: &[Spans]) -> Result<Vec<Numbers>, AllocError>
+    ensures { IfOk result (λ each. each.items ≡ all.now) }
 {
     let mut each = Vec::new(alloc);
-    for span in spans {
-        each.push(numbers_in(alloc, *span)?)?;
+    for numbers in all {
+        each.push(numbers_of(alloc, &numbers.spans)?)?;
     }
     Ok(each)
 }
 
-/// These numbers, one by one.
-fn numbers_in(alloc: Global, span: Span) -> Result<Numbers, AllocError>
-    ensures { IfOk result (λ numbers. numbers ≡ numbers_in_span span) }
+/// The numbers of spans, one by one.
+fn numbers_of(alloc: Global, spans: &[Span]) -> Result<Numbers, AllocError>
+    ensures { IfOk result (λ numbers. numbers ≡ numbers_in spans.now) }
 {
     let mut numbers = Vec::new(alloc);
-    for number in span.first..span.first + span.count {
-        numbers.push(number)?;
+    for span in spans {
+        push_numbers(&mut numbers, *span)?;
     }
     Ok(Numbers::of(numbers))
 }
 
-/// Moves batches behind others.
-fn move_all(all: &mut Vec<Records>, batches: Vec<Records>) -> Result<(), AllocError>
-    ensures { OnOk result (all.new.items ≡ all.old.items ++ batches.items) }
+/// Appends the numbers of a span.
+fn push_numbers(numbers: &mut Vec<u64>, span: Span) -> Result<(), AllocError>
+    ensures { OnOk result (numbers.new.items ≡ numbers.old.items ++ numbers_in_span span) }
 {
-    for batch in batches {
-        all.push(batch)?;
+    for number in span.first..span.first + span.count {
+        numbers.push(number)?;
     }
     Ok(())
 }

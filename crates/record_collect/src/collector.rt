@@ -1,12 +1,13 @@
 //! A list that several threads put records into.
-ghost use Rattle.std.specs.Prelude.{◌≡◌, ◌≤◌, [], All, IfErr, IfOk, vec_len};
-ghost use Rattle.record_collect.specs.Passes.{BelongsTo, IsFresh, IsPut, IsReady, IsRefused};
-ghost use Rattle.record_collect.specs.Puts.{puts};
+ghost use Rattle.std.specs.Prelude.{◌≡◌, ℕ, ◌^◌, ◌≤◌, [], ◌∷◌, All, IfErr, IfOk, None, length, vec_len};
+ghost use Rattle.std.specs.List.{AllByRecursion};
+ghost use Rattle.simple_chunk.specs.Costs.{cost_of};
+ghost use Rattle.record_collect.specs.Passes.{BelongsTo, EndsHere, IsFilled, IsFresh, IsPut, IsReady, IsRefused, IsReserved};
+ghost use Rattle.record_collect.specs.Puts.{CanStep, EndsAbove, TakesPiece, puts};
 
 use atomic_table::{Seat, Table};
 use number_shares::{Bounds, EachOnce, OneSeat, OneTake, SeatView, Terms};
-use record_values::Bytes;
-use simple_chunk::RECORD_COST;
+use simple_chunk::{RECORD_COST, Records};
 use std::alloc::{AllocError, Global};
 use std::marker::Model;
 
@@ -37,11 +38,11 @@ pub enum CollectEnd {
     Memory,
 }
 
-/// A record that was accepted, with its receipt.
+/// Records that were accepted together, with the receipt of the first.
 #[derive(Drop)]
-pub(crate) struct Accepted {
+pub(crate) struct Batch {
     pub(crate) at: u64,
-    pub(crate) bytes: Bytes,
+    pub(crate) records: Records,
 }
 
 /// A list that threads put records into, each by a pass of its own. It takes at most 2^26 of cost: a record costs its length
@@ -69,21 +70,44 @@ impl Model for Collector {
 #[derive(Drop)]
 pub struct Pass {
     pub(crate) seat: Seat<(), SeatView>,
-    pub(crate) records: Vec<Accepted>,
+    pub(crate) batches: Vec<Batch>,
     ended: Option<u64>,
 }
 
 impl Model for Pass {
     ghost use Rattle.std.specs.Prelude.{◌≡◌, [], map};
     ghost use Rattle.std.specs.Option.{option_to_list};
-    ghost use Rattle.record_collect.specs.Passes.{PassValue, Rises};
-    ghost use Rattle.record_collect.specs.Puts.{accepted_piece, puts};
+    ghost use Rattle.record_collect.specs.Passes.{AreShort, PassValue, Rises};
+    ghost use Rattle.record_collect.specs.Puts.{batch_piece, puts};
 
     ghost Value = { PassValue };
 
-    ghost view = { λ p. record { table = p.seat.table_id; mine = p.records.items; ended = p.ended } };
+    ghost view = { λ p. record { table = p.seat.table_id; mine = p.batches.items; ended = p.ended } };
 
-    ghost invariant = { λ p. (p.seat.me.0.mine ≡ map accepted_piece p.records.items) × (map (λ x. x.at) p.seat.me.0.past ≡ option_to_list p.ended) × (p.seat.me.0.weight ≡ 1) × (p.seat.me.1 ≡ []) × Rises p.records.items × (p.seat.me.0.bounds ≡ puts) };
+    ghost invariant = { λ p. (p.seat.me.0.mine ≡ map batch_piece p.batches.items) × (map (λ x. x.at) p.seat.me.0.past ≡ option_to_list p.ended) × (p.seat.me.0.weight ≡ 1) × (p.seat.me.1 ≡ []) × Rises p.batches.items × (p.seat.me.0.bounds ≡ puts) × AreShort p.batches.items };
+}
+
+/// A pass that took its step for records before they are read, with what those before them cost and what they cost themselves.
+#[derive(Drop)]
+pub(crate) struct Reserved {
+    seat: Seat<(), SeatView>,
+    batches: Vec<Batch>,
+    at: u64,
+    cost: u64,
+}
+
+impl Model for Reserved {
+    ghost use Rattle.std.specs.Prelude.{◌≡◌, ◌+◌, ◌≤◌, ◌++◌, ◌∷◌, [], map};
+    ghost use Rattle.std.specs.List.{AllByRecursion};
+    ghost use Rattle.simple_chunk.specs.Costs.{cost_of};
+    ghost use Rattle.record_collect.specs.Passes.{AreShort, ReservedValue, Rises};
+    ghost use Rattle.record_collect.specs.Puts.{batch_piece, puts};
+
+    ghost Value = { ReservedValue };
+
+    ghost view = { λ r. record { table = r.seat.table_id; mine = r.batches.items; at = r.at; cost = r.cost } };
+
+    ghost invariant = { λ r. (r.seat.me.0.mine ≡ map batch_piece r.batches.items ++ record { at = r.at; cost = r.cost } ∷ []) × (r.seat.me.0.past ≡ []) × (r.seat.me.0.weight ≡ 1) × (r.seat.me.1 ≡ []) × Rises r.batches.items × AllByRecursion (λ b. b.at + cost_of b.records ≤ r.at) r.batches.items × (r.seat.me.0.bounds ≡ puts) × AreShort r.batches.items };
 }
 
 impl Collector {
@@ -98,7 +122,7 @@ impl Collector {
         let bounds = Bounds {
             limit: LIMIT,
             least: RECORD_COST,
-            most: RECORD_SIZE as u64 + RECORD_COST,
+            most: LIMIT + 1,
         };
         let terms = Terms {
             bounds,
@@ -139,29 +163,95 @@ impl Collector {
         if let Some(held) = pass.ended {
             return Err(CollectEnd::Full { held });
         }
-        if pass.records.try_reserve(1).is_err() {
-            return Err(CollectEnd::Memory);
-        }
-        let Ok(bytes) = Vec::from_slice(self.alloc, rec) else {
+        let Ok(records) = one_record(self.alloc, rec) else {
             return Err(CollectEnd::Memory);
         };
-        let cost = rec.len() as u64 + RECORD_COST;
-        let held = self
-            .table
-            .shared
-            .fetch_add::<OneTake>(&mut pass.seat, 0, cost);
-        if held + cost > LIMIT {
-            pass.ended = Some(held);
-            return Err(CollectEnd::Full { held });
+        if pass.batches.try_reserve(1).is_err() {
+            return Err(CollectEnd::Memory);
         }
-        let bytes = Bytes::from(bytes);
-        pass.records.push_reserved(Accepted { at: held, bytes });
-        Ok(Receipt { at: held })
+        match self.step(&mut pass.seat, rec.len() as u64 + RECORD_COST) {
+            Ok(at) => {
+                pass.batches.push_reserved(Batch { at, records });
+                Ok(Receipt { at })
+            }
+            Err(held) => {
+                pass.ended = Some(held);
+                Err(CollectEnd::Full { held })
+            }
+        }
+    }
+
+    /// Takes the step for records that cost so much, before they are read, or ends the pass.
+    pub(crate) fn reserve(&self, pass: Pass, cost: u64) -> Result<Reserved, Pass>
+        requires belongs { BelongsTo self.now pass }
+        requires going { pass.ended ≡ None }
+        requires some { 8 ≤ cost }
+        ensures reserved { IfOk result (IsReserved pass cost) }
+        ensures full { IfErr result (λ full. (held : ℕ) × EndsHere pass cost held full) }
+    {
+        let Pass {
+            mut seat,
+            batches,
+            ..
+        } = pass;
+        match self.step(&mut seat, cost) {
+            Ok(at) => Ok(Reserved {
+                seat,
+                batches,
+                at,
+                cost,
+            }),
+            Err(held) => Err(Pass {
+                seat,
+                batches,
+                ended: Some(held),
+            }),
+        }
+    }
+
+    /// One step of records that cost so much: what those before them cost, as an error where with them all would cost more than
+    /// 2^26.
+    fn step(&self, seat: &mut Seat<(), SeatView>, cost: u64) -> Result<u64, u64>
+        requires table { seat.old.table_id ≡ self.now.table }
+        requires going { CanStep seat.old.me }
+        requires some { 8 ≤ cost }
+        ensures table { seat.new.table_id ≡ seat.old.table_id }
+        ensures taken { IfOk result (λ at. TakesPiece seat.old.me at cost seat.new.me) }
+        ensures over { IfErr result (λ held. EndsAbove seat.old.me held cost seat.new.me) }
+    {
+        let taken = cost.min(LIMIT + 1);
+        let held = self.table.shared.fetch_add::<OneTake>(seat, 0, taken);
+        if held + taken > LIMIT {
+            return Err(held);
+        }
+        Ok(held)
+    }
+}
+
+impl Reserved {
+    /// The pass with these records, which cost what it took its step for.
+    pub(crate) fn fill(self, records: Records) -> Result<Pass, AllocError>
+        requires cost { cost_of records ≡ self.cost }
+        requires short { AllByRecursion (λ r. length r ≤ 2 ^ 24) records }
+        ensures { IfOk result (IsFilled self records) }
+    {
+        let Reserved {
+            seat,
+            mut batches,
+            at,
+            ..
+        } = self;
+        batches.push(Batch { at, records })?;
+        Ok(Pass {
+            seat,
+            batches,
+            ended: None,
+        })
     }
 }
 
 impl Pass {
-    // A pass of which nothing was put.
+    /// A pass of which nothing was put.
     fn fresh(alloc: Global, seat: Seat<(), SeatView>) -> Pass
         requires view { (seat.me.0.mine ≡ []) × (seat.me.0.past ≡ []) × (seat.me.0.weight ≡ 1) × (seat.me.0.bounds ≡ puts) }
         requires slots { seat.me.1 ≡ [] }
@@ -170,7 +260,7 @@ impl Pass {
     {
         Pass {
             seat,
-            records: Vec::new(alloc),
+            batches: Vec::new(alloc),
             ended: None,
         }
     }
@@ -181,4 +271,13 @@ impl Pass {
     {
         self.ended
     }
+}
+
+/// A list of one record.
+fn one_record(alloc: Global, rec: &[u8]) -> Result<Records, AllocError>
+    ensures { IfOk result (λ records. records ≡ rec.now ∷ []) }
+{
+    let mut records = Records::new(alloc);
+    records.push(rec)?;
+    Ok(records)
 }

@@ -1,25 +1,32 @@
-//! The records of one file, as they are read and held.
-ghost use Rattle.std.specs.Prelude.{◌≡◌, ◌≢◌, ℕ, ◌+◌, ◌-◌, ◌*◌, ◌<◌, ◌≤◌, ◌^◌, [], List, IfOk, IsErr, Ok, false, min};
-ghost use Rattle.record_io.specs.Calls.{HasSize, OnlyAsks};
-ghost use Rattle.chunk_header.specs.Kinds.{simple_kind};
-ghost use Rattle.chunk_header.specs.Views.{value_of_chunk};
-ghost use Rattle.meta_chunk.specs.Files.{Holds};
-ghost use Rattle.chunk_reader.specs.Contents.{IsJudged};
-ghost use Rattle.chunk_reader.specs.Readers.{ReadsIn};
-ghost use Rattle.simple_chunk.specs.Costs.{cost_of};
-ghost use Rattle.record_collect.specs.Takings.{CanTakeNext, IsFed, TakesNext, TakesOn};
+//! The records of one file, which are put chunk by chunk.
+ghost use Rattle.std.specs.Prelude.{◌≡◌, ℕ, ◌≤◌, ◌^◌, IfErr, IfOk, false, true, length};
+ghost use Rattle.std.specs.List.{AllByRecursion};
+ghost use Rattle.record_io.specs.Calls.{HasSize};
+ghost use Rattle.record_collect.specs.declared.feeding.Fed.{Fed};
+ghost use Rattle.record_collect.specs.Batches.{HasLong};
+ghost use Rattle.record_collect.specs.Passes.{CollectorValue};
+ghost use Rattle.record_collect.specs.Takings.{BelongsWhere, CanTakeNext, IsCostBy, IsFed, IsHeldWithout, IsReadyFed, IsReservedOf, TakesNext};
 
-use crate::coverage::Coverage;
-use crate::file_batches::FileBatches;
-use crate::room::Room;
+use crate::collector::{Collector, Pass, RECORD_SIZE, Reserved};
 use chunk_header::{Header, Kind, kind_of};
-use chunk_reader::{Judged, ReadEnd, Reader, What};
-use record_io::{Failed, Store};
+use chunk_reader::{ChunkAhead, Judged, ReadEnd, Reader, What};
+use record_io::Store;
 use simple_chunk::{RECORD_COST, Records};
-use std::alloc::AllocError;
+use std::alloc::Global;
 
-/// Reads a file of `size` bytes strictly, to its end or its fault, and holds its records unless one is too long or there is no
-/// room for them.
+/// What is held of the records of a file.
+#[derive(Drop)]
+pub(crate) enum Fed {
+    /// All of them, by this pass.
+    Whole(Pass),
+    /// Those of the chunks before one at which the pass ended.
+    Full(Pass),
+    /// None, since one has more than 2^24 bytes.
+    TooLong,
+}
+
+/// Reads a file of `size` bytes strictly, to its end or its fault, and puts the records of each chunk by a pass of which nothing
+/// was put yet, up to the chunk at which the pass ends. A chunk's step is taken before its records are read.
 ///
 /// # Errors
 ///
@@ -27,70 +34,61 @@ use std::alloc::AllocError;
 pub(crate) fn feed_file<S: Store>(
     store: &mut S,
     size: u64,
-    room: &Room,
-    file: &mut FileBatches,
-) -> Result<Coverage, ReadEnd>
+    collector: &Collector,
+    fed: Fed,
+) -> Result<Fed, ReadEnd>
     requires sized { HasSize (S.told store.old) size }
-    requires ready { file.old ≡ [] }
-    ensures fed { IsFed S.bytes S.told S.name S.faults file.new store.old store.new result }
+    requires ready { IsReadyFed collector.now fed }
+    ensures { IsFed S.bytes S.told S.name S.faults collector.now store.old store.new result }
 {
-    let mut reader = Reader::new(size, false);
-    let mut part = Coverage::Whole;
-    while feed_next(store, room, &mut reader, file, &mut part)? {}
-    Ok(part)
+    let mut reader = Reader::behind_signature(store, size, false)?;
+    let mut fed = fed;
+    while let Some(ahead) = reader.ahead(store)? {
+        fed = feed_next(store, &mut reader, &ahead, collector, fed)?;
+    }
+    Ok(fed)
 }
 
-/// Takes the records of the next chunk, and answers whether there was one. Where there is no room for them, no records are held
-/// any more, and the chunk is judged alone.
+/// Puts the records of the next chunk, which has this header, where all before them were put and the pass doesn't end there;
+/// else the chunk is judged alone.
 fn feed_next<S: Store>(
     store: &mut S,
-    room: &Room,
     reader: &mut Reader,
-    file: &mut FileBatches,
-    part: &mut Coverage,
-) -> Result<bool, ReadEnd>
-    requires { CanTakeNext (S.bytes store.old) (S.told store.old) reader.old }
-    ensures { TakesNext S.bytes S.told S.name S.faults reader.old part.old file.old store.old reader.new part.new file.new store.new result }
+    ahead: &ChunkAhead,
+    collector: &Collector,
+    fed: Fed,
+) -> Result<Fed, ReadEnd>
+    requires next { CanTakeNext (S.bytes store.old) (S.told store.old) reader.old ahead.now }
+    requires belongs { BelongsWhere collector.now fed }
+    ensures { TakesNext S.bytes S.told S.name S.faults collector.now reader.old fed store.old reader.new store.new result }
 {
-    let Ok(holds) = is_to_hold(store, room, reader, *part) else {
-        return Err(ReadEnd::Store);
-    };
-    if holds {
-        hold_next(store, reader, file, part)
-    } else {
-        pass_next(store, reader, file, part)
+    match reserve_next(collector, fed, records_cost(&ahead.header)) {
+        Ok(reserved) => hold_next(collector.alloc, store, reader, ahead, reserved),
+        Err(fed) => pass_next(store, reader, ahead, fed),
     }
 }
 
-/// Whether the next chunk is to be held: the file's first, and any other that has records, by its header, where all before them
-/// are held and there is room for them.
-fn is_to_hold<S: Store>(
-    store: &mut S,
-    room: &Room,
-    reader: &Reader,
-    part: Coverage,
-) -> Result<bool, Failed>
-    requires { ReadsIn (S.bytes store.old) (S.told store.old) reader.now }
-    ensures behind { result ≡ Ok false → 0 < reader.now.totals.bytes }
-    ensures store { OnlyAsks S.bytes S.told S.name S.faults (IsErr result) store.old store.new }
+/// Takes the step for the records of a chunk, which cost so much, where there are some and all before them were put; else it tells
+/// what is held without them.
+fn reserve_next(collector: &Collector, fed: Fed, cost: u64) -> Result<Reserved, Fed>
+    requires { BelongsWhere collector.now fed }
+    ensures reserved { IfOk result (IsReservedOf collector.now fed cost) }
+    ensures without { IfErr result (IsHeldWithout collector.now fed cost) }
 {
-    if reader.at() == 0 {
-        return Ok(true);
+    match fed {
+        Fed::Whole(pass) if cost >= RECORD_COST => match collector.reserve(pass, cost) {
+            Ok(reserved) => Ok(reserved),
+            Err(full) => Err(Fed::Full(full)),
+        },
+        Fed::Whole(pass) => Err(Fed::Whole(pass)),
+        Fed::Full(pass) => Err(Fed::Full(pass)),
+        Fed::TooLong => Err(Fed::TooLong),
     }
-    if part != Coverage::Whole {
-        return Ok(false);
-    }
-    let cost = match reader.header_ahead(store)? {
-        Some(header) => records_cost(&header),
-        None => 0,
-    };
-    Ok(cost != 0 && room.take(cost))
 }
 
-/// What the records of a chunk cost by its header, or the greatest number.
+/// What the records of a chunk cost by its header, or the greatest number; nothing where it is no chunk of records.
 fn records_cost(header: &Header) -> u64
-    ensures simple { header.now.kind ≡ simple_kind → result ≡ min (header.now.decoded_size + 8 * header.now.num_records) (2 ^ 64 - 1) }
-    ensures other { header.now.kind ≢ simple_kind → result ≡ 0 }
+    ensures { IsCostBy header.now result }
 {
     match kind_of(header.kind) {
         Kind::Simple => header
@@ -100,83 +98,54 @@ fn records_cost(header: &Header) -> u64
     }
 }
 
-/// Takes the records of the next chunk, and answers whether there was one.
+/// Reads the records of the next chunk, for which a pass took its step.
 fn hold_next<S: Store>(
+    alloc: Global,
     store: &mut S,
     reader: &mut Reader,
-    file: &mut FileBatches,
-    part: &mut Coverage,
-) -> Result<bool, ReadEnd>
-    requires { CanTakeNext (S.bytes store.old) (S.told store.old) reader.old }
-    ensures { TakesNext S.bytes S.told S.name S.faults reader.old part.old file.old store.old reader.new part.new file.new store.new result }
+    ahead: &ChunkAhead,
+    reserved: Reserved,
+) -> Result<Fed, ReadEnd>
+    requires next { CanTakeNext (S.bytes store.old) (S.told store.old) reader.old ahead.now }
+    requires cost { IsCostBy ahead.now.header reserved.cost }
+    requires some { 8 ≤ reserved.cost }
+    ensures { (collector : CollectorValue) (fed : Fed) → IsReservedOf collector fed reserved.cost reserved
+        → TakesNext S.bytes S.told S.name S.faults collector reader.old fed store.old reader.new store.new result }
 {
-    let Some(judged) = reader.next(file.allocator(), store)? else {
-        return Ok(false);
+    let Judged { what, .. } = reader.read(alloc, store, ahead)?;
+    let What::Records(records) = what else {
+        unreachable!()
     };
-    *part = feed_chunk(judged, file, *part)?;
-    Ok(true)
-}
-
-/// Takes the records of a chunk, where so much is held of those before them, and answers what is held then.
-fn feed_chunk(
-    judged: Judged,
-    file: &mut FileBatches,
-    part: Coverage,
-) -> Result<Coverage, AllocError>
-    requires judged { (size place : ℕ) × (size ≤ 2 ^ 60) × IsJudged false size place judged }
-    ensures part { IfOk result (λ after. (held : List (List ℕ)) × Holds (value_of_chunk judged.chunk) held
-        × TakesOn part file.old after file.new held) }
-{
-    let Judged { what, .. } = judged;
-    match what {
-        What::Records(records) => feed_records(records, file, part),
-        What::Passive | What::Unread => Ok(part),
+    if has_long(&records) {
+        return Ok(Fed::TooLong);
     }
+    Ok(Fed::Whole(reserved.fill(records)?))
 }
 
-/// Takes these records, unless some before them weren't.
-#[tactic(auto, using(crate::proofs::TakenRecords::takes_none))]
-fn feed_records(
-    records: Records,
-    file: &mut FileBatches,
-    part: Coverage,
-) -> Result<Coverage, AllocError>
-    ensures { IfOk result (λ after. TakesOn part file.old after file.new records) }
-{
-    match part {
-        Coverage::Whole => file.take(records),
-        _ => Ok(part),
-    }
-}
-
-/// Judges the next chunk, and answers whether there was one. Where it has records, none are held any more.
+/// Judges the next chunk alone, where so much is held without its records.
 fn pass_next<S: Store>(
     store: &mut S,
     reader: &mut Reader,
-    file: &mut FileBatches,
-    part: &mut Coverage,
-) -> Result<bool, ReadEnd>
-    requires next { CanTakeNext (S.bytes store.old) (S.told store.old) reader.old }
-    requires behind { 0 < reader.old.totals.bytes }
-    ensures { TakesNext S.bytes S.told S.name S.faults reader.old part.old file.old store.old reader.new part.new file.new store.new result }
+    ahead: &ChunkAhead,
+    fed: Fed,
+) -> Result<Fed, ReadEnd>
+    requires { CanTakeNext (S.bytes store.old) (S.told store.old) reader.old ahead.now }
+    ensures { (collector : CollectorValue) (before : Fed) (cost : ℕ) → IsCostBy ahead.now.header cost → IsHeldWithout collector before cost fed
+        → TakesNext S.bytes S.told S.name S.faults collector reader.old before store.old reader.new store.new result }
 {
-    let Some(header) = reader.pass(store)? else {
-        return Ok(false);
-    };
-    *part = pass_records(records_cost(&header), file, *part);
-    Ok(true)
+    reader.pass(store, ahead)?;
+    Ok(fed)
 }
 
-/// Passes over records that cost at least so much, of which there is none where that is nothing, and answers what is held then.
-#[tactic(auto, using(crate::proofs::TakenRecords::takes_none, crate::proofs::TakenRecords::takes_nothing))]
-fn pass_records(cost: u64, file: &mut FileBatches, part: Coverage) -> Coverage
-    ensures { (records : List (List ℕ)) → cost ≤ cost_of records → (cost ≡ 0 → records ≡ []) → TakesOn part file.old result file.new records }
+/// Whether one of the records has more than 2^24 bytes.
+fn has_long(records: &Records) -> bool
+    ensures long { result ≡ true → HasLong records.now }
+    ensures short { result ≡ false → AllByRecursion (λ r. length r ≤ 2 ^ 24) records.now }
 {
-    if cost == 0 {
-        return part;
+    for number in 0..records.len() {
+        if records.get(number).len() > RECORD_SIZE {
+            return true;
+        }
     }
-    match part {
-        Coverage::Whole => file.let_go(cost),
-        _ => part,
-    }
+    false
 }

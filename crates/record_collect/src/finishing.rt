@@ -4,6 +4,7 @@ ghost use Rattle.record_collect.specs.Gatherings.{IsInBounds};
 ghost use Rattle.record_collect.specs.Passes.{AreGathered, BelongsTo};
 ghost use Rattle.record_collect.specs.Orders.{ArePlaced, AreSorted, HasAllOf};
 
+use crate::batches::Batches;
 use crate::collector::{Collector, Pass};
 use crate::gathered::Gathered;
 use crate::placed::{Placed, place_all};
@@ -21,12 +22,26 @@ impl Collector {
         ensures gathered { IfOk result (λ made. AreGathered passes.items made) }
         ensures bounds { IfOk result IsInBounds }
     {
-        let count = passes.len();
-        let all = self.sorted(alloc, passes)?;
-        Gathered::of(alloc, &all, count)
+        Gathered::of_batches(alloc, &self.finish_batches(alloc, passes)?)
     }
 
-    /// The records of all passes, in the order of their receipts.
+    /// The same in the batches that were put.
+    pub(crate) fn finish_batches(
+        self,
+        alloc: Global,
+        passes: Vec<Pass>,
+    ) -> Result<Batches, AllocError>
+        requires passes { vec_len passes ≡ self.passes }
+        requires each { All (BelongsTo self) passes.items }
+        ensures gathered { IfOk result (λ made. AreGathered passes.items made) }
+        ensures bounds { IfOk result IsInBounds }
+    {
+        let count = passes.len();
+        let all = self.sorted(alloc, passes)?;
+        Batches::of(alloc, all, count)
+    }
+
+    /// The batches of all passes, in the order of their receipts.
     fn sorted(self, alloc: Global, passes: Vec<Pass>) -> Result<Vec<Placed>, AllocError>
         requires passes { vec_len passes ≡ self.passes }
         requires each { All (BelongsTo self) passes.items }
@@ -39,7 +54,7 @@ impl Collector {
         Ok(all)
     }
 
-    /// One seat that has taken in all of them, and the records, with the numbers of their passes.
+    /// One seat that has taken in all of them, and the batches, with the numbers of their passes.
     fn joined(
         &self,
         alloc: Global,
@@ -56,12 +71,12 @@ impl Collector {
             unreachable!()
         };
         let mut whole = last.seat;
-        place_all(&mut all, passes.len(), last.records)?;
+        place_all(&mut all, passes.len(), last.batches)?;
         while let Some(other) = passes.pop() {
             self.table
                 .shared
                 .join_seat::<Behind>(&mut whole, other.seat);
-            place_all(&mut all, passes.len(), other.records)?;
+            place_all(&mut all, passes.len(), other.batches)?;
         }
         Ok((whole, all))
     }

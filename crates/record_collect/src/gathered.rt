@@ -1,12 +1,8 @@
 //! Collected records, and where those of each pass stand.
-ghost use Rattle.std.specs.Prelude.{◌≡◌, ◌<◌, ◌≤◌, ◌^◌, Some, length, map, IfOk, slice_get};
-ghost use Rattle.std.specs.List.{AllByRecursion, range_with_len};
+ghost use Rattle.std.specs.Prelude.{◌≡◌, ◌<◌, Some, length, IfOk, slice_get};
 ghost use Rattle.record_collect.specs.Gatherings.{IsInBounds};
-ghost use Rattle.record_collect.specs.Orders.{cost_of_placed, gathered_of, places_of};
-ghost use Rattle.record_collect.specs.Limits.{limit};
 
 use crate::batches::Batches;
-use crate::placed::{Placed, numbers_of, records_alone};
 use simple_chunk::Records;
 use std::alloc::{AllocError, Global};
 use std::marker::Model;
@@ -68,18 +64,7 @@ impl Model for Gathered {
 }
 
 impl Gathered {
-    /// The records, and the numbers of those of each pass, of which there are so many.
-    pub(crate) fn of(alloc: Global, all: &[Placed], passes: usize) -> Result<Gathered, AllocError>
-        requires short { AllByRecursion (λ e. length e.bytes ≤ 2 ^ 24) all.now }
-        requires most { cost_of_placed all.now ≤ limit }
-        ensures { IfOk result (λ made. made ≡ gathered_of all.now passes) }
-    {
-        let records = records_alone(alloc, all)?;
-        let numbers = numbers_of_each(alloc, all, passes)?;
-        Ok(Gathered { records, numbers })
-    }
-
-    /// The records of batches, and the numbers of each file's.
+    /// The records of batches in one list, and the numbers of each pass.
     pub(crate) fn of_batches(alloc: Global, all: &Batches) -> Result<Gathered, AllocError>
         ensures { IfOk result (λ made. made ≡ all.now) }
     {
@@ -103,16 +88,4 @@ impl Gathered {
     {
         &self.numbers[i]
     }
-}
-
-/// At which numbers the records of each pass stand.
-fn numbers_of_each(alloc: Global, all: &[Placed], passes: usize) -> Result<Vec<Numbers>, AllocError>
-    ensures { IfOk result (λ each. each.items ≡ map (λ pass. places_of pass 0 all.now) (range_with_len 0 passes)) }
-{
-    let mut each = Vec::new(alloc);
-    for pass in 0..passes {
-        let numbers = numbers_of(alloc, all, pass)?;
-        each.push(Numbers { numbers })?;
-    }
-    Ok(each)
 }

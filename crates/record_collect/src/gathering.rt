@@ -1,16 +1,15 @@
 //! Files whose records are gathered, by threads.
-ghost use Rattle.std.specs.Prelude.{◌≡◌, ◌≤◌, IfOk, Err, length, vec_len};
+ghost use Rattle.std.specs.Prelude.{◌≡◌, ◌≤◌, IfErr, IfOk, OnOk, Ok, Err, length, map, vec_len};
+ghost use Rattle.std.specs.List.{AllByRecursion};
 ghost use Rattle.record_io.specs.ManyStores.{AreOnlyAsked, IfAllTell};
 ghost use Rattle.record_collect.specs.declared.gathering.StoppedAt.{StoppedAt};
-ghost use Rattle.record_collect.specs.Ends.{IsGatheredBy, IsGatheredOf, IsInOneList, IsJoinedBy, IsUnheld, TellsFirst};
-ghost use Rattle.record_collect.specs.Takings.{AreRead, AreSized, IsFirstStopped, both_taken};
+ghost use Rattle.record_collect.specs.Ends.{ArePassesOf, IsGatheredBy, IsGatheredOf, IsInOneList, TellsFirst};
+ghost use Rattle.record_collect.specs.Takings.{AreSized, BelongsWhere, IsFirstStopped, IsRead};
 
 use crate::batches::Batches;
-use crate::collector::LIMIT;
-use crate::coverage::Coverage;
-use crate::file_batches::{FileBatches, empty_files, fit_together};
+use crate::collector::{Collector, Pass};
+use crate::feeding::Fed;
 use crate::gathered::Gathered;
-use crate::room::Room;
 use crate::slots::feed_into;
 use chunk_reader::{Fault, ReadEnd};
 use record_io::Store;
@@ -91,9 +90,9 @@ fn in_one_list(alloc: Global, batches: &Batches) -> Result<Gathered, GatherEnd>
     }
 }
 
-/// Gathers the records of 1 to 16 files, those of one behind those of another, by threads: one reads each store to its end or
-/// its fault, strictly, and holds its records as they were read, while those of all that are held cost no more than 2^26.
-/// `sizes` are those that the stores told, in their order, each at most 2^60. Own.
+/// Gathers the records of 1 to 16 files by threads: one reads each store to its end or its fault, strictly, and puts the records
+/// of each chunk into one collector, so that what is held of all costs no more than 2^26. They stand in the order of their
+/// receipts. `sizes` are those that the stores told, in their order, each at most 2^60. Own.
 ///
 /// # Errors
 ///
@@ -112,101 +111,82 @@ pub fn gather_batches<R: Threads + Sync, S: Store + Send>(
     ensures complete { IfAllTell S.bytes stores.old (TellsFirst result) }
     ensures stores { AreOnlyAsked S.bytes S.told S.name S.faults (result ≡ Err GatherEnd.Store) stores.old stores.new }
 {
-    let Ok(mut answers) = unanswered(alloc, stores.len()) else {
+    let Ok((collector, passes)) = Collector::new(alloc, stores.len() as u32) else {
         return Err(GatherEnd::Memory);
     };
-    let Ok(mut files) = empty_files(alloc, stores.len()) else {
+    let Ok(mut fed) = ready_fed(alloc, passes) else {
         return Err(GatherEnd::Memory);
     };
-    let room = Room::new();
-    feed_into(rt, sizes, &room, &mut files, &mut answers, stores);
-    all_gathered(alloc, files, &answers)
+    feed_into(rt, sizes, &collector, &mut fed, stores);
+    all_gathered(alloc, collector, fed)
 }
 
 /// What was gathered of files, where every one was read to its end and the records are not too much.
-#[tactic(auto, using(crate::proofs::AllRead::read_as, crate::proofs::WholeGatherings::joined_as, crate::proofs::WholeGatherings::too_long_as, crate::proofs::WholeGatherings::unheld_as))]
 fn all_gathered(
     alloc: Global,
-    files: Vec<FileBatches>,
-    answers: &[Result<Coverage, ReadEnd>],
+    collector: Collector,
+    fed: Vec<Result<Fed, ReadEnd>>,
 ) -> Result<Batches, GatherEnd>
-    ensures { IsGatheredBy result files.items answers.now }
+    requires count { vec_len fed ≡ collector.passes }
+    requires belongs { AllByRecursion (λ f. IfOk f (BelongsWhere collector)) fed.items }
+    ensures { IsGatheredBy result fed.items }
 {
-    match all_read(answers)? {
-        Coverage::Whole => joined(alloc, files),
-        Coverage::TooLong => Err(GatherEnd::TooMuch),
-        Coverage::NoRoom { cost } => Err(end_unheld(&files, cost)),
-    }
-}
-
-/// Why records were not gathered, where some aren't held as there was no room, and these cost at least so much. With those that
-/// are held they are too much: only then is there no room. Of a number that threads share no clause can say so, and where they
-/// weren't, it would be want of memory.
-fn end_unheld(files: &[FileBatches], cost: u64) -> GatherEnd
-    ensures { IsUnheld files.now cost result }
-{
-    if cost <= LIMIT && fit_together(files, LIMIT - cost) {
-        GatherEnd::Memory
-    } else {
-        GatherEnd::TooMuch
-    }
-}
-
-/// The records of files, where they are not too much together.
-fn joined(alloc: Global, files: Vec<FileBatches>) -> Result<Batches, GatherEnd>
-    ensures { IsJoinedBy result files.items }
-{
-    if !fit_together(&files, LIMIT) {
-        return Err(GatherEnd::TooMuch);
-    }
-    match Batches::of_files(alloc, files) {
-        Ok(made) => Ok(made),
+    let (passes, are_whole) = passes_of(alloc, fed)?;
+    match collector.finish_batches(alloc, passes) {
+        Ok(made) if are_whole => Ok(made),
+        Ok(_) => Err(GatherEnd::TooMuch),
         Err(AllocError) => Err(GatherEnd::Memory),
     }
 }
 
-/// So many places for answers.
-fn unanswered(alloc: Global, count: usize) -> Result<Vec<Result<Coverage, ReadEnd>>, AllocError>
-    ensures { IfOk result (λ answers. vec_len answers ≡ count) }
+/// The passes of files that were all read to their ends and have no record that is too long, and whether none of the passes
+/// ended.
+fn passes_of(alloc: Global, fed: Vec<Result<Fed, ReadEnd>>) -> Result<(Vec<Pass>, bool), GatherEnd>
+    ensures passes { IfOk result (λ r. ArePassesOf fed.items r.0.items r.1) }
+    ensures ended { IfErr result (λ end. IsGatheredBy (Err end) fed.items) }
 {
-    let mut answers = Vec::with_capacity(alloc, count)?;
-    for _ in 0..count {
-        answers.push_reserved(Err(ReadEnd::Memory));
-    }
-    Ok(answers)
-}
-
-/// What was taken of all files together, or the first that was not read to its end.
-fn all_read(answers: &[Result<Coverage, ReadEnd>]) -> Result<Coverage, StoppedAt>
-    ensures read { IfOk result (λ part. AreRead answers.now part) }
-    ensures stopped { (stopped : StoppedAt) → result ≡ Err stopped → IsFirstStopped answers.now stopped.index stopped.end }
-{
-    let mut part = Coverage::Whole;
-    for index in 0..answers.len() {
-        let more = match answers[index] {
-            Ok(more) => more,
-            Err(end) => {
-                return Err(StoppedAt {
-                    index: index as u64,
-                    end,
-                });
+    check_all_read(&fed)?;
+    let Ok(mut passes) = Vec::with_capacity(alloc, fed.len()) else {
+        return Err(GatherEnd::Memory);
+    };
+    let mut are_whole = true;
+    for one in fed {
+        match one {
+            Ok(Fed::Whole(pass)) => passes.push_reserved(pass),
+            Ok(Fed::Full(pass)) => {
+                passes.push_reserved(pass);
+                are_whole = false;
             }
-        };
-        part = both_taken(part, more);
+            Ok(Fed::TooLong) => return Err(GatherEnd::TooMuch),
+            Err(_) => unreachable!(),
+        }
     }
-    Ok(part)
+    Ok((passes, are_whole))
 }
 
-/// What is taken of files together with one more.
-fn both_taken(part: Coverage, more: Coverage) -> Coverage
-    ensures { result ≡ both_taken part more }
+/// Each pass as what is fed before a file is read.
+fn ready_fed(alloc: Global, passes: Vec<Pass>) -> Result<Vec<Result<Fed, ReadEnd>>, AllocError>
+    ensures { IfOk result (λ fed. fed.items ≡ map (λ pass. Ok (Fed.Whole pass)) passes.items) }
 {
-    match (part, more) {
-        (Coverage::Whole, _) => more,
-        (_, Coverage::Whole) => part,
-        (Coverage::NoRoom { cost }, Coverage::NoRoom { cost: others }) => Coverage::NoRoom {
-            cost: cost.saturating_add(others),
-        },
-        _ => Coverage::TooLong,
+    let mut fed = Vec::with_capacity(alloc, passes.len())?;
+    for pass in passes {
+        fed.push_reserved(Ok(Fed::Whole(pass)));
     }
+    Ok(fed)
+}
+
+/// Stops at the first file that was not read to its end.
+fn check_all_read(fed: &[Result<Fed, ReadEnd>]) -> Result<(), StoppedAt>
+    ensures read { OnOk result (AllByRecursion IsRead fed.now) }
+    ensures stopped { (stopped : StoppedAt) → result ≡ Err stopped → IsFirstStopped fed.now stopped.index stopped.end }
+{
+    for index in 0..fed.len() {
+        if let Err(end) = fed[index] {
+            return Err(StoppedAt {
+                index: index as u64,
+                end,
+            });
+        }
+    }
+    Ok(())
 }

@@ -3,16 +3,13 @@
 
 mod batches;
 mod collector;
-mod coverage;
 mod feeding;
-mod file_batches;
 mod file_places;
 mod finishing;
 mod gathered;
 mod gathering;
 pub mod laws;
 mod placed;
-mod room;
 mod slots;
 mod span;
 

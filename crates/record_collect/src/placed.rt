@@ -1,68 +1,64 @@
-//! The records of all passes in one list.
-ghost use Rattle.std.specs.Prelude.{◌≡◌, ◌++◌, map, IfOk, OnOk};
-ghost use Rattle.record_collect.specs.Orders.{bytes_in, place_in, places_of};
+//! The batches of all passes in one list.
+ghost use Rattle.std.specs.Prelude.{◌≡◌, ◌++◌, ◌≤◌, map, IfOk, OnOk};
+ghost use Rattle.record_collect.specs.Batches.{numbers_in};
+ghost use Rattle.record_collect.specs.Limits.{limit};
+ghost use Rattle.record_collect.specs.Orders.{cost_of_placed, lists_in, place_in, places_of};
 
-use crate::collector::Accepted;
-use record_values::Bytes;
+use crate::collector::Batch;
+use crate::span::Span;
 use simple_chunk::Records;
 use std::alloc::{AllocError, Global};
 
-/// An accepted record, with its receipt and the number of its pass.
+/// Records that were accepted together, with the receipt of the first and the number of their pass.
 #[derive(Drop)]
 pub(crate) struct Placed {
     pub(crate) at: u64,
     pub(crate) pass: usize,
-    pub(crate) bytes: Bytes,
+    pub(crate) records: Records,
 }
 
-/// Puts the records of a pass behind those of others.
+/// Appends the batches of a pass to those of others.
 pub(crate) fn place_all(
     all: &mut Vec<Placed>,
     pass: usize,
-    records: Vec<Accepted>,
+    batches: Vec<Batch>,
 ) -> Result<(), AllocError>
-    ensures { OnOk result (all.new.items ≡ all.old.items ++ map (place_in pass) records.items) }
+    ensures { OnOk result (all.new.items ≡ all.old.items ++ map (place_in pass) batches.items) }
 {
-    for e in records {
+    for e in batches {
         all.push(Placed {
             at: e.at,
             pass,
-            bytes: e.bytes,
+            records: e.records,
         })?;
     }
     Ok(())
 }
 
-/// The records alone, in their order.
-pub(crate) fn records_alone(alloc: Global, all: &[Placed]) -> Result<Records, AllocError>
-    ensures { IfOk result (λ records. records ≡ bytes_in all.now) }
+/// The lists of records alone, in their order.
+pub(crate) fn lists_alone(alloc: Global, all: Vec<Placed>) -> Result<Vec<Records>, AllocError>
+    ensures { IfOk result (λ lists. lists.items ≡ lists_in all.items) }
 {
-    let mut records = Records::new(alloc);
-    records.reserve(bytes_together(all), all.len())?;
-    for place in 0..all.len() {
-        records.push(all[place].bytes.as_slice())?;
-    }
-    Ok(records)
-}
-
-/// How many bytes the records have together, or the greatest number where that is greater.
-fn bytes_together(all: &[Placed]) -> usize {
-    let mut bytes = 0usize;
+    let mut lists = Vec::with_capacity(alloc, all.len())?;
     for e in all {
-        bytes = bytes.saturating_add(e.bytes.len());
+        lists.push_reserved(e.records);
     }
-    bytes
+    Ok(lists)
 }
 
 /// At which numbers the records of a pass stand.
-pub(crate) fn numbers_of(alloc: Global, all: &[Placed], pass: usize) -> Result<Vec<u64>, AllocError>
-    ensures { IfOk result (λ numbers. numbers.items ≡ places_of pass 0 all.now) }
+pub(crate) fn spans_of(alloc: Global, all: &[Placed], pass: usize) -> Result<Vec<Span>, AllocError>
+    requires { cost_of_placed all.now ≤ limit }
+    ensures { IfOk result (λ spans. numbers_in spans.items ≡ places_of pass 0 all.now) }
 {
-    let mut numbers = Vec::new(alloc);
-    for (place, e) in all.iter().enumerate() {
+    let mut spans = Vec::new(alloc);
+    let mut first = 0;
+    for e in all {
+        let count = e.records.len() as u64;
         if e.pass == pass {
-            numbers.push(place as u64)?;
+            spans.push(Span { first, count })?;
         }
+        first += count;
     }
-    Ok(numbers)
+    Ok(spans)
 }

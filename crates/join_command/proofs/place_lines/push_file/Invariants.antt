@@ -1,7 +1,7 @@
-use Rattle.std.proofs.Common.{◌≡◌, ◌++◌, ◌-◌}
-use Rattle.std.specs.List.{range_with_len}
+use Rattle.std.proofs.Common.{◌≡◌, ◌++◌, take}
+use Rattle.record_collect.specs.Batches.{numbers_in}
 use Rattle.join_command.specs.CollectCommand.{file_lines}
 use Rattle.join_command.proofs.place_lines.push_file.Given as goal
 
-abbrev pub invariant-loop-number : goal.invariant-loop-number
-invariant-loop-number l = l.text.items ≡ l.fn.text.items ++ file_lines l.places (l.file, range_with_len l.fn.span.first (l.number - l.fn.span.first))
+abbrev pub invariant-loop-i : goal.invariant-loop-i
+invariant-loop-i l = l.text.items ≡ l.fn.text.items ++ file_lines l.places (l.fn.file, numbers_in (take l.i l.spans))

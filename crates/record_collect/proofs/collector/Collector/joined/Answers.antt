@@ -7,10 +7,10 @@ use Rattle.number_shares.proofs.Lists.{of_last, of_others, flat_map-last}
 use Rattle.atomic_table.specs.Table.{Me}
 use Rattle.number_shares.specs.declared.table.Piece.{Piece}
 use Rattle.number_shares.specs.declared.table.SeatView.{SeatView}
-use Rattle.record_collect.specs.declared.collector.Accepted.{Accepted}
+use Rattle.record_collect.specs.declared.collector.Batch.{Batch}
 use Rattle.record_collect.specs.declared.placed.Placed.{Placed}
 use Rattle.number_shares.specs.Rule.{joined_behind}
-use Rattle.record_collect.specs.Passes.{PassValue, Rises, ends_of}
+use Rattle.record_collect.specs.Passes.{AreShort, PassValue, Rises, ends_of}
 use Rattle.record_collect.specs.Orders.{piece_at, place_in}
 use Rattle.record_collect.proofs.PlacedPasses.{IsGathered, gathered_none, gathered_more}
 use Rattle.record_collect.proofs.PlacedPasses.{pieces_placed}
@@ -22,19 +22,19 @@ pub loop-other-init : goal.loop-other-init
 loop-other-init c =
     let rest : List PassValue = c.pop.new.self.items in
     let last : PassValue = c.in-Some.last in
-    let records : List Accepted = c.last.inside.records.items in
+    let batches : List Batch = c.last.inside.batches.items in
     let was : c.args.passes.items ≡ rest ++ last ∷ [] = c.in-Some.ensures.items in
     let each : All (λ (p : PassValue). p.table ≡ c.args.self.now.table) (rest ++ last ∷ []) = subst (All (λ (p : PassValue). p.table ≡ c.args.self.now.table)) was c.requires.each in
-    let mine : records ≡ last.mine = ap (λ (v : PassValue). v.mine) c.last.view_is in
+    let mine : batches ≡ last.mine = ap (λ (v : PassValue). v.mine) c.last.view_is in
     let items : c.place_all.new.all.items ≡ map (place_in (length rest)) last.mine =
     c.in_ok-place_all.ensures
-    ∙ ap (λ (l : List Placed). l ++ map (place_in c.len.result) records) c.new-all.ensures.items
-    ∙ ap (λ (n : ℕ). map (place_in n) records) (omega (arith, c.len.ensures, c.pop.new.self.ok))
+    ∙ ap (λ (l : List Placed). l ++ map (place_in c.len.result) batches) c.new-all.ensures.items
+    ∙ ap (λ (n : ℕ). map (place_in n) batches) (omega (arith, c.len.ensures, c.pop.new.self.ok))
     ∙ ap (map (place_in (length rest))) mine in
     record {
       each = of_others (λ (p : PassValue). p.table ≡ c.args.self.now.table) rest last each;
       table = ap (λ (v : PassValue). v.table) c.last.view_is ∙ of_last (λ (p : PassValue). p.table ≡ c.args.self.now.table) rest last each;
-      mine = c.last.invariant.0 ∙ sym (pieces_placed (length rest) records) ∙ ap (λ (es : List Accepted). map piece_at (map (place_in (length rest)) es)) mine ∙ ap (map piece_at) (sym items);
+      mine = c.last.invariant.0 ∙ sym (pieces_placed (length rest) batches) ∙ ap (λ (es : List Batch). map piece_at (map (place_in (length rest)) es)) mine ∙ ap (map piece_at) (sym items);
       past =
           ap (λ (ns : List ℕ). ends_of rest ++ ns) (c.last.invariant.1 ∙ ap (λ (v : PassValue). option_to_list v.ended) c.last.view_is ∙ sym (append-nil (option_to_list last.ended)))
           ∙ sym (flat_map-last (λ (p : PassValue). option_to_list p.ended) rest last [])
@@ -44,7 +44,7 @@ loop-other-init c =
       some = omega (arith, c.last.invariant.2);
       slots = c.last.invariant.3;
       gathered = subst (IsGathered rest c.args.passes.items) (sym items)
-          (gathered_more rest c.args.passes.items last [] (subst Rises mine c.last.invariant.4)
+          (gathered_more rest c.args.passes.items last [] (subst Rises mine c.last.invariant.4) (subst AreShort mine c.last.invariant.6)
           (subst (λ (ps : List PassValue). IsGathered ps c.args.passes.items []) was (gathered_none c.args.passes.items)));
     }
 
@@ -70,24 +70,24 @@ loop-other-preserved c =
     let whole = c.loop-other.whole in
     let rest : List PassValue = c.pop-in-loop-other.new.self.items in
     let other : PassValue = c.in-Some-pop.other in
-    let records : List Accepted = c.other.inside.records.items in
+    let batches : List Batch = c.other.inside.batches.items in
     let was : c.loop-other.passes.items ≡ rest ++ other ∷ [] = c.in-Some-pop.ensures.items in
     let each : All (λ (p : PassValue). p.table ≡ c.args.self.now.table) (rest ++ other ∷ []) = subst (All (λ (p : PassValue). p.table ≡ c.args.self.now.table)) was h.each in
-    let mine : records ≡ other.mine = ap (λ (v : PassValue). v.mine) c.other.view_is in
+    let mine : batches ≡ other.mine = ap (λ (v : PassValue). v.mine) c.other.view_is in
     let view : c.join_seat.new.seat.me.0 ≡ joined_behind whole.me.0 c.other.inside.seat.me.0 = ap (λ (me : Me (Unit {0}) SeatView). me.0) c.join_seat.ensures.2 in
     let weight : c.join_seat.new.seat.me.0.weight ≡ whole.me.0.weight + 1 = ap (λ (v : SeatView). v.weight) view ∙ ap (λ (k : ℕ). whole.me.0.weight + k) c.other.invariant.2 in
     let placed : List Placed = map (place_in (length rest)) other.mine in
     let items : c.place_all-in-Some-pop.new.all.items ≡ c.loop-other.all.items ++ placed =
     c.in_ok-place_all-2.ensures
-    ∙ ap (λ (n : ℕ). c.loop-other.all.items ++ map (place_in n) records) (omega (arith, c.len-in-Some-pop.ensures, c.pop-in-loop-other.new.self.ok))
-    ∙ ap (λ (es : List Accepted). c.loop-other.all.items ++ map (place_in (length rest)) es) mine in
+    ∙ ap (λ (n : ℕ). c.loop-other.all.items ++ map (place_in n) batches) (omega (arith, c.len-in-Some-pop.ensures, c.pop-in-loop-other.new.self.ok))
+    ∙ ap (λ (es : List Batch). c.loop-other.all.items ++ map (place_in (length rest)) es) mine in
     record {
       each = of_others (λ (p : PassValue). p.table ≡ c.args.self.now.table) rest other each;
       table = c.join_seat.ensures.0 ∙ h.table;
       mine =
           ap (λ (v : SeatView). v.mine) view
           ∙ ap (λ (xs : List Piece). xs ++ c.other.inside.seat.me.0.mine) h.mine
-          ∙ ap (λ (xs : List Piece). map piece_at c.loop-other.all.items ++ xs) (c.other.invariant.0 ∙ sym (pieces_placed (length rest) records) ∙ ap (λ (es : List Accepted). map piece_at (map (place_in (length rest)) es)) mine)
+          ∙ ap (λ (xs : List Piece). map piece_at c.loop-other.all.items ++ xs) (c.other.invariant.0 ∙ sym (pieces_placed (length rest) batches) ∙ ap (λ (es : List Batch). map piece_at (map (place_in (length rest)) es)) mine)
           ∙ sym (map-append piece_at c.loop-other.all.items placed)
           ∙ ap (map piece_at) (sym items);
       past =
@@ -102,7 +102,7 @@ loop-other-preserved c =
       some = omega (arith, weight);
       slots = ap (λ (me : Me (Unit {0}) SeatView). me.1) c.join_seat.ensures.2 ∙ h.slots;
       gathered = subst (IsGathered rest c.args.passes.items) (sym items)
-          (gathered_more rest c.args.passes.items other c.loop-other.all.items (subst Rises mine c.other.invariant.4)
+          (gathered_more rest c.args.passes.items other c.loop-other.all.items (subst Rises mine c.other.invariant.4) (subst AreShort mine c.other.invariant.6)
           (subst (λ (ps : List PassValue). IsGathered ps c.args.passes.items c.loop-other.all.items) was h.gathered));
     }
 
@@ -125,5 +125,6 @@ returns-clause-placed c =
     record {
       each = λ i p at. h.placed i p (omega arith) at;
       rising = λ i p at. h.rising i p (omega arith) at;
+      short = h.short;
       no_other = subst (λ (n : ℕ). AllByRecursion (λ (e : Placed). e.pass < n) c.loop-other.all.items) (grind (arith, common_steps)) h.no_other;
     }

@@ -1,15 +1,13 @@
-use Rattle.std.proofs.Common.{rules, ◌≡◌, ◌∙◌, ℕ, ◌+◌, ◌<◌, ◌≤◌, ◌^◌, List, [], length, map, vec_len, ap, sym, subst, arith}
+use Rattle.std.proofs.Common.{rules, ◌≡◌, ◌∙◌, ℕ, ◌+◌, ◌<◌, ◌≤◌, List, [], map, vec_len, ap, sym, subst, arith}
 use Rattle.std.specs.List.{slice_index}
 use Rattle.std.proofs.lemmas.List.Sorted.{IsNonDecreasingBy-from_sort_by_key}
 use Rattle.number_shares.specs.declared.table.Piece.{Piece}
 use Rattle.record_collect.specs.declared.placed.Placed.{Placed}
 use Rattle.number_shares.specs.Least.{IsLeast}
-use Rattle.number_shares.specs.Machine.{IsMine}
 use Rattle.record_collect.specs.Limits.{limit}
 use Rattle.record_collect.specs.Puts.{puts}
-use Rattle.record_collect.specs.Passes.{ends_of}
-use Rattle.record_collect.specs.Orders.{cost_of_placed, piece_at}
-use Rattle.number_shares.proofs.Lists.{all_map}
+use Rattle.record_collect.specs.Passes.{IsShort, ends_of}
+use Rattle.record_collect.specs.Orders.{cost_of_placed}
 use Rattle.number_shares.proofs.PastPieces.{least_past}
 use Rattle.record_collect.proofs.Finished.{IsSortedOut, sorted_out, all_permuted, of_pass_sorted}
 use Rattle.record_collect.proofs.Laid.{laid_most}
@@ -36,10 +34,10 @@ returns c =
     let ends : map (λ (x : Piece). x.at) past ≡ ends_of c.args.passes.items = c.in_ok-whole.ensures.seat.past in
     let from_none : 0 + cost_of_placed sorted ≡ cost_of_placed sorted = omega arith in
     record {
-      each = λ i p at. of_pass_sorted i p.mine all sorted (c.in_ok-whole.ensures.placed.each i p at) (c.in_ok-whole.ensures.placed.rising i p at) (out c).tiles.laid permuted;
+      each = λ i p at. of_pass_sorted i p.mine all sorted (c.in_ok-whole.ensures.placed.each i p at) (c.in_ok-whole.ensures.placed.rising i p at) (out c).tiles.laid (out c).mine permuted;
       no_other = all_permuted (λ (e : Placed). e.pass < vec_len c.args.passes) all sorted permuted c.in_ok-whole.ensures.placed.no_other;
       receipts = (out c).tiles.laid;
-      short = all_map (λ (e : Placed). IsMine puts (piece_at e)) (λ (e : Placed). length e.bytes ≤ 2 ^ 24) sorted (λ e own. omega (arith, own.few)) (out c).mine;
+      short = all_permuted (λ (e : Placed). IsShort e.records) all sorted permuted c.in_ok-whole.ensures.placed.short;
       most = omega (arith, low);
       ended = λ ended.
           let some : ¬ (past ≡ []) = λ none. ended (sym ends ∙ ap (map (λ (x : Piece). x.at)) none) in
