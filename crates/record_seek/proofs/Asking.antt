@@ -13,5 +13,5 @@ pub first_not_found : {E : Type 0} (Before : List ℕ → Type 0) (records : Lis
 first_not_found Before records begin number bytes (Ok None) below stands apart all numbered = absurd (omega (arith, below, numbered))
 first_not_found Before records begin number bytes (Ok (Some found)) below stands apart all numbered =
     let same : bytes ≡ found.bytes = same_Some bytes found.bytes (sym stands ∙ numbered.0) in
-    (number, numbered.0, numbered.1, (λ before. apart (subst Before (sym same) before)), all)
+    (number, numbered.0, numbered.1, numbered.2, (λ before. apart (subst Before (sym same) before)), all)
 first_not_found Before records begin number bytes (Err end) below stands apart all numbered = tt

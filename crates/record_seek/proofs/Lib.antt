@@ -13,6 +13,7 @@ pub mod ReadCosts
 pub mod Turns
 pub mod Halves
 pub mod Finding
+pub mod Begun
 pub mod MetPlaces
 pub mod OneFound
 pub mod FoundByKey

@@ -347,7 +347,7 @@ read-records Before (Some file) now from place spent paid next held found same r
 pub read_record : (Before : List ℕ → Type 0) (file : List ℕ) (from place : ℕ) (records : List (List ℕ)) (found : Found) → AreReadTo Before file from place
     → NoneOf (Applies file place) unpassed_reasons → HasRecordsAt file place records → IsFirstNot Before records place (Some found)
     → IsReadRecord Before file from found
-read_record Before file from place records found read none holds (number, stands, position, apart, before) = record {
+read_record Before file from place records found read none holds (number, stands, position, begin, apart, before) = record {
   place = place;
   records = records;
   number = number;
@@ -356,6 +356,7 @@ read_record Before file from place records found read none holds (number, stands
   holds = holds;
   stands = stands;
   position = position;
+  begin = begin;
   apart = apart;
   before = before;
 }

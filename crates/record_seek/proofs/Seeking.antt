@@ -67,7 +67,7 @@ simple_given : (file : List ℕ) (at number : ℕ) (held : ChunkRecords) (found 
     → HasRecordsAt file held.begin held.records → IsNumbered held.records held.begin number found → SearchGives file at (placed_of found)
 simple_given file at number held None is answer there few =
     absurd (omega (arith, is, few, there.holds.num_records, answer.has.0, answer.has.1))
-simple_given file at number held (Some found) is answer there (stands, position) = record {
+simple_given file at number held (Some found) is answer there (stands, position, begin) = record {
   place = held.begin;
   records = held.records;
   answers = answer;

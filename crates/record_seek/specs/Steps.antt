@@ -69,7 +69,7 @@ pub record AreRecordsAt (file : List ℕ) (chunk : ChunkRecords) : Type 0 where
 
 -- of the records of a chunk that begins at a place, the one of a number with its position, or nothing where there are fewer
 abbrev pub IsNumbered : List (List ℕ) → (begin number : ℕ) → Option Found → Type 0
-IsNumbered records begin number (Some found) = (slice_get records number ≡ Some found.bytes) × (found.position ≡ begin + number)
+IsNumbered records begin number (Some found) = (slice_get records number ≡ Some found.bytes) × (found.position ≡ begin + number) × (found.begin ≡ begin)
 IsNumbered records begin number None = length records ≤ number
 
 -- whether the first of records stands before: no where there is none
@@ -81,7 +81,7 @@ IsFirstBefore Before records before =
 -- of the records of a chunk that begins at a place, the first that doesn't stand before, or nothing where each does
 abbrev pub IsFirstNot : (Before : List ℕ → Type 0) → List (List ℕ) → (begin : ℕ) → Option Found → Type 0
 IsFirstNot Before records begin (Some found) =
-    (number : ℕ) × (slice_get records number ≡ Some found.bytes) × (found.position ≡ begin + number) × (¬ Before found.bytes)
+    (number : ℕ) × (slice_get records number ≡ Some found.bytes) × (found.position ≡ begin + number) × (found.begin ≡ begin) × (¬ Before found.bytes)
     × ((i : ℕ) (bytes : List ℕ) → i < number → slice_get records i ≡ Some bytes → Before bytes)
 IsFirstNot Before records begin None = (i : ℕ) (bytes : List ℕ) → slice_get records i ≡ Some bytes → Before bytes
 
@@ -114,6 +114,7 @@ pub record IsReadRecord (Before : List ℕ → Type 0) (file : List ℕ) (from :
   pub holds : HasRecordsAt file place records
   pub stands : slice_get records number ≡ Some found.bytes
   pub position : found.position ≡ place + number
+  pub begin : found.begin ≡ place
   pub apart : ¬ Before found.bytes
   pub before : (i : ℕ) (bytes : List ℕ) → i < number → slice_get records i ≡ Some bytes → Before bytes
 

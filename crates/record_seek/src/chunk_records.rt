@@ -18,6 +18,8 @@ use std::alloc::{AllocError, Global};
 /// A record that was found. Own.
 #[derive(Debug, Drop)]
 pub struct Found {
+    /// Where its chunk begins.
+    pub begin: u64,
     /// Its position: where its chunk begins, and its number in the chunk.
     pub position: u64,
     /// Its bytes.
@@ -86,6 +88,7 @@ pub(crate) fn record_of(
     let mut bytes = Bytes::new(alloc);
     bytes.push_all(chunk.records.get(number as usize))?;
     Ok(Some(Found {
+        begin: chunk.begin,
         position: chunk.begin + number,
         bytes,
     }))

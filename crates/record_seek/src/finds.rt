@@ -7,6 +7,7 @@ ghost use Rattle.chunk_reader.specs.Holders.{TellsBegin, IsBlockFault};
 ghost use Rattle.chunk_reader.specs.SearchBounds.{key_bound};
 ghost use Rattle.chunk_reader.specs.Sizes.{HasBlock};
 ghost use Rattle.chunk_reader.specs.declared.reasons.Fault.{Fault};
+ghost use Rattle.record_seek.specs.Begins.{StandsIfFound};
 ghost use Rattle.record_seek.specs.Found.{IsKeyFound, BytesStandBefore, OnlyFrontStandsBefore};
 ghost use Rattle.record_seek.specs.KeyTests.{IsKeyTest, StandsBefore};
 ghost use Rattle.record_seek.specs.Met.{IsMetFault, IsMetRecord, LeadsWithoutRecords, LeadsPastAll};
@@ -58,6 +59,7 @@ pub fn find<S: Store, F: Fn(&[u8]) -> bool + Drop>(
     ensures apart { IfOk result (λ found. IfSome found (λ f. ¬ StandsBefore F.Fn test.now.test f.bytes)) }
     ensures met { (found : Found) → result ≡ Ok (Some found)
         → IfSome (S.bytes store.old) (λ file. IsMetRecord file (StandsBefore F.Fn test.now.test) (found.position, found.bytes)) }
+    ensures begin { IfOk result (StandsIfFound (S.bytes store.old)) }
     ensures none { result ≡ Ok None
         → IfSome (S.bytes store.old) (λ file. LeadsWithoutRecords file (length file)
         ⊎ LeadsPastAll file (length file) (StandsBefore F.Fn test.now.test)) }

@@ -9,6 +9,7 @@ ghost use Rattle.chunk_reader.specs.PositionSearches.{HasRecordFrom, SearchComes
 ghost use Rattle.chunk_reader.specs.SearchBounds.{position_bound};
 ghost use Rattle.chunk_reader.specs.Sizes.{MayBeginAt};
 ghost use Rattle.chunk_reader.specs.declared.reasons.Fault.{Fault};
+ghost use Rattle.record_seek.specs.Begins.{StandsIfFound};
 ghost use Rattle.record_seek.specs.Found.{IsAnsweringNumber};
 ghost use Rattle.record_seek.specs.Steps.{IsAnswer, placed_of};
 
@@ -37,6 +38,7 @@ pub fn seek<S: Store>(
 ) -> Result<Option<Found>, ReadEnd>
     requires sized { HasSize (S.told store.old) size }
     ensures found { IfOk result (λ found. IfSome (S.bytes store.old) (λ file. SearchGives file at (placed_of found))) }
+    ensures begin { IfOk result (StandsIfFound (S.bytes store.old)) }
     ensures refused { (fault : Fault) → result ≡ Err (ReadEnd.Refused fault)
         → IfSome (S.bytes store.old) (λ file. IsSearchFault file at fault) }
     ensures handed { IfSome (S.bytes store.old) (λ file. (ks : List ChunkValue) (h j : ℕ)

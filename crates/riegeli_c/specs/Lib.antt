@@ -6,7 +6,6 @@ pub mod Totals
 pub mod Splits
 pub mod Parts
 pub mod Seeks
-pub mod Seeking
 pub mod Repairs
 pub mod Repairing
 pub mod Recovers

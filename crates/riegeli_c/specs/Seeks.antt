@@ -1,16 +1,10 @@
 -- Promise. Records that are found, as they are told to C. Own.
-use Rattle.std.specs.Prelude.{◌≡◌, ℕ, ◌-◌, ◌≤◌, ◌⊎◌, Some, List, length, slice_get}
-use Rattle.chunk_reader.specs.PositionSearches.{HasRecordsAt, SearchGives}
-use Rattle.chunk_reader.specs.Holders.{IsHolder, IsHolderFault}
-use Rattle.chunk_reader.specs.declared.reasons.Fault.{Fault}
-use Rattle.seek_command.specs.Searches.{MayFind, IsKeyFault}
+use Rattle.std.specs.Prelude.{◌≡◌, ℕ, ◌-◌, ◌≤◌, Some, List, length}
+use Rattle.chunk_reader.specs.PositionSearches.{SearchGives}
+use Rattle.record_seek.specs.Begins.{IsRecordOf}
+use Rattle.record_seek.specs.Met.{IsMetBySearch}
+use Rattle.seek_command.specs.Searches.{MayFind}
 use Rattle.riegeli_c.specs.declared.seeking.FoundAt.{FoundAt}
-
--- the record of this number of a chunk without fault that begins at a place
-pub record IsRecordOf (file : List ℕ) (begin number : ℕ) (bytes : List ℕ) : Type 0 where
-  pub records : List (List ℕ)
-  pub holds : HasRecordsAt file begin records
-  pub stands : slice_get records number ≡ Some bytes
 
 -- what a search for a position gives, as it is told
 pub record TellsSought (file : List ℕ) (position : ℕ) (told : FoundAt) (bytes : List ℕ) : Type 0 where
@@ -19,14 +13,10 @@ pub record TellsSought (file : List ℕ) (position : ℕ) (told : FoundAt) (byte
   pub stands : IsRecordOf file told.begin (told.position - told.begin) bytes
   pub size : told.bytes ≡ length bytes
 
--- what a search for a key gives, as it is told: the chunk is the one that holds the position
+-- what a search for a key gives, as it is told: the chunk is one to which the search may come
 pub record TellsFound (file key : List ℕ) (told : FoundAt) (bytes : List ℕ) : Type 0 where
   pub finds : MayFind key file (Some (told.position, bytes))
-  pub begin : IsHolder file told.position told.begin
+  pub met : IsMetBySearch file told.begin
+  pub behind : told.begin ≤ told.position
+  pub stands : IsRecordOf file told.begin (told.position - told.begin) bytes
   pub size : told.bytes ≡ length bytes
-
--- the fault of a search for a key, or why no chunk is found to hold what it finds
-abbrev pub IsFindFault : (file key : List ℕ) → Fault → Type 0
-IsFindFault file key fault =
-    IsKeyFault file fault
-    ⊎ ((position : ℕ) × (bytes : List ℕ) × MayFind key file (Some (position, bytes)) × IsHolderFault file position fault)

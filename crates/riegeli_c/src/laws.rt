@@ -1,14 +1,15 @@
 //! Laws of the definitions that contracts cite. Nothing runs here.
 
-ghost use Rattle.std.specs.Prelude.{◌≡◌, ◌↔◌, ℕ, ◌-◌, ◌^◌, ◌<◌, ◌≤◌, Bool, true, false, Option, List, [], ◌∷◌, ◌++◌, length, map, take, drop};
+ghost use Rattle.std.specs.Prelude.{◌≡◌, ◌↔◌, ℕ, ◌^◌, ◌<◌, ◌≤◌, Bool, true, false, Option, List, [], ◌∷◌, ◌++◌, length, map, take, drop};
 ghost use Rattle.std.specs.List.{flat_map};
 ghost use Rattle.chunk_header.specs.Chunks.{ChunkValue};
+ghost use Rattle.chunk_reader.specs.Holders.{IsHolder};
 ghost use Rattle.damage_skip.specs.FilePieces.{ArePieces, placed_in};
 ghost use Rattle.damage_skip.specs.Pieces.{PieceKind, Piece, AreTiles, events_in, AreEvents, records_in};
 ghost use Rattle.riegeli_c.specs.Parts.{IsPart, ArePartsFrom};
 ghost use Rattle.riegeli_c.specs.Pieces.{AreToldFrom, unkept};
 ghost use Rattle.riegeli_c.specs.Recovers.{IsBadBegin, TellsPiece};
-ghost use Rattle.riegeli_c.specs.Seeks.{IsRecordOf, TellsFound};
+ghost use Rattle.riegeli_c.specs.Seeks.{TellsFound};
 ghost use Rattle.riegeli_c.specs.Splits.{IsFirstBegin};
 ghost use Rattle.meta_chunk.specs.Files.{IsWellFormed, ArePlaced, begin_of, end_of_chunks, laid_each};
 ghost use Rattle.record_group.specs.declared.pad.Pad.{Pad};
@@ -133,11 +134,10 @@ pub fn parts_have_each_record_once()
         → ArePartsFrom ks file 0 (cuts ++ length file ∷ []) parts → flat_map (λ part. part) parts ≡ placed }
 {}
 
-/// In a file of chunks a record that is found by its key stands in the chunk that is told with it:
-/// that has no fault, and in it the record has the number by which its position is past the chunk's
-/// begin. Own.
-pub fn found_records_stand_in_their_chunks()
+/// In a file of chunks a record that is found by its key is told with the chunk that holds its
+/// position. Own.
+pub fn found_chunks_hold_their_positions()
     ensures { (ks : List ChunkValue) (file key : List ℕ) (told : FoundAt) (bytes : List ℕ)
         → IsWellFormed ks file → length file ≤ 2 ^ 60 → TellsFound file key told bytes
-        → (told.begin ≤ told.position) × IsRecordOf file told.begin (told.position - told.begin) bytes }
+        → IsHolder file told.position told.begin }
 {}

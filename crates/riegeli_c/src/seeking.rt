@@ -1,17 +1,15 @@
-ghost use Rattle.std.specs.Prelude.{◌≡◌, ◌-◌, ◌^◌, ◌<◌, ◌≤◌, ◌⊎◌, ◌↔◌, ℕ, List, Some, None, Err, length, take};
-ghost use Rattle.chunk_reader.specs.Holders.{IsHolderFault};
+ghost use Rattle.std.specs.Prelude.{◌≡◌, ◌^◌, ◌<◌, ◌≤◌, ◌⊎◌, ◌↔◌, ℕ, List, Some, None, Err, length, take};
 ghost use Rattle.chunk_reader.specs.PositionSearches.{AnswersAt, SearchGives, IsSearchFault};
 ghost use Rattle.chunk_reader.specs.Reasons.{Applies, NoneOf, loading_reasons};
 ghost use Rattle.record_seek.specs.Met.{IsMetBySearch};
-ghost use Rattle.seek_command.specs.Searches.{MayFind};
+ghost use Rattle.seek_command.specs.Searches.{IsKeyFault, MayFind};
 ghost use Rattle.riegeli_c.specs.Faults.{TellsFault};
-ghost use Rattle.riegeli_c.specs.Seeking.{HoldsFound};
-ghost use Rattle.riegeli_c.specs.Seeks.{IsRecordOf, TellsSought, TellsFound, IsFindFault};
+ghost use Rattle.riegeli_c.specs.Seeks.{TellsSought, TellsFound};
 
 use crate::faults::FaultAt;
 use chunk_reader::ReadEnd;
 use command_frame::MOST_FILE_BYTES;
-use record_seek::{Found, HolderEnd, holder, seek};
+use record_seek::{Found, seek};
 use seek_command::find_by_key;
 use slice_io::SliceStore;
 use std::alloc::Global;
@@ -22,8 +20,7 @@ use std::alloc::Global;
 pub struct FoundAt {
     /// Its position.
     pub position: u64,
-    /// Where the chunk begins that holds the position. In it the record has the number
-    /// position - begin, from 0 on; but if it was found by a key, only where the file has no fault.
+    /// Where its chunk begins, in which it has the number position - begin, from 0 on.
     pub begin: u64,
     /// How many bytes it has.
     pub bytes: u64,
@@ -61,7 +58,7 @@ pub extern "C" fn riegeli_seek(
     }
     let mut store = SliceStore::new(file);
     match seek(alloc, &mut store, size, at) {
-        Ok(Some(sought)) => give_found(&sought, chunk_of(file, at, &sought), found, value),
+        Ok(Some(sought)) => give_found(&sought, found, value),
         Ok(None) => 5,
         Err(ReadEnd::Refused(met)) => {
             *fault = FaultAt::of(&met);
@@ -73,10 +70,10 @@ pub extern "C" fn riegeli_seek(
 }
 
 /// Tells a record that was found, and gives its bytes where there is room.
-fn give_found(sought: &Found, begin: u64, found: &mut FoundAt, value: &mut [u8]) -> u32
+fn give_found(sought: &Found, found: &mut FoundAt, value: &mut [u8]) -> u32
     ensures status { (result ≡ 0) ⊎ (result ≡ 4) }
     ensures position { found.new.position ≡ sought.now.position }
-    ensures begin { found.new.begin ≡ begin }
+    ensures begin { found.new.begin ≡ sought.now.begin }
     ensures size { found.new.bytes ≡ length sought.now.bytes }
     ensures given { result ≡ 0 → take (length sought.now.bytes) value.new ≡ sought.now.bytes }
     ensures room { result ≡ 4 → length value.old < length sought.now.bytes }
@@ -84,7 +81,7 @@ fn give_found(sought: &Found, begin: u64, found: &mut FoundAt, value: &mut [u8])
     let bytes = sought.bytes.as_slice();
     *found = FoundAt {
         position: sought.position,
-        begin,
+        begin: sought.begin,
         bytes: bytes.len() as u64,
     };
     if value.len() < bytes.len() {
@@ -94,34 +91,15 @@ fn give_found(sought: &Found, begin: u64, found: &mut FoundAt, value: &mut [u8])
     0
 }
 
-/// Where the chunk begins of a record that was found for a position: at the record, where that is
-/// past the position, and else it is the chunk that holds the position.
-fn chunk_of(file: &[u8], at: u64, sought: &Found) -> u64
-    requires short { length file.now ≤ 2 ^ 60 }
-    requires sought { SearchGives file.now at (Some (sought.now.position, sought.now.bytes)) }
-    ensures behind { result ≤ sought.now.position }
-    ensures stands { IsRecordOf file.now result (sought.now.position - result) sought.now.bytes }
-{
-    if at < sought.position {
-        return sought.position;
-    }
-    match holder(&mut SliceStore::new(file), file.len() as u64, at) {
-        Ok(Some(begin)) => begin,
-        Ok(None) => unreachable!(),
-        Err(HolderEnd::Refused(_)) => unreachable!(),
-        Err(HolderEnd::Store) => unreachable!(),
-    }
-}
-
 /// Finds a record by a key, as bytes are compared. In a readable file whose records are in order it
 /// is the first that isn't less than the key; in any other readable file it is one that isn't less,
 /// and it is the first of all or stands right behind one that is less. Its bytes are given in
 /// `value`.
 ///
-/// 0: `found` tells of it. 1: `fault` is the fault that the search met, or why its chunk can't be
-/// told. 2: the file has more than 2^60 bytes. 3: there is too little memory. 4: there is too
-/// little room; `found` tells of it all the same, so that `bytes` bytes are needed. 5: none was
-/// found: in a readable file the last record is less than the key, or there is no record.
+/// 0: `found` tells of it. 1: `fault` is the fault that the search met. 2: the file has more than
+/// 2^60 bytes. 3: there is too little memory. 4: there is too little room; `found` tells of it all
+/// the same, so that `bytes` bytes are needed. 5: none was found: in a readable file the last
+/// record is less than the key, or there is no record.
 #[unsafe(no_mangle)]
 pub extern "C" fn riegeli_find(
     alloc: Global,
@@ -134,7 +112,7 @@ pub extern "C" fn riegeli_find(
     ensures answers { result ≤ 5 }
     ensures given { result ≡ 0 → (bytes : List ℕ)
         × TellsFound file.now key.now found.new bytes × (take (length bytes) value.new ≡ bytes) }
-    ensures refused { result ≡ 1 → TellsFault (IsFindFault file.now key.now) fault.new }
+    ensures refused { result ≡ 1 → TellsFault (IsKeyFault file.now) fault.new }
     ensures too_long { (result ≡ 2) ↔ (2 ^ 60 < length file.now) }
     ensures memory { result ≡ 3 → (place : ℕ)
         × IsMetBySearch file.now place × NoneOf (Applies file.now place) loading_reasons }
@@ -148,7 +126,7 @@ pub extern "C" fn riegeli_find(
     }
     let mut store = SliceStore::new(file);
     match find_by_key(alloc, &mut store, size, key) {
-        Ok(Some(sought)) => tell_found(file, &sought, found, value, fault),
+        Ok(Some(sought)) => give_found(&sought, found, value),
         Ok(None) => 5,
         Err(ReadEnd::Refused(met)) => {
             *fault = FaultAt::of(&met);
@@ -156,37 +134,5 @@ pub extern "C" fn riegeli_find(
         }
         Err(ReadEnd::Memory) => 3,
         Err(ReadEnd::Store) => unreachable!(),
-    }
-}
-
-/// Tells a record that was found by its key with the chunk that holds its position, and gives its
-/// bytes where there is room.
-fn tell_found(
-    file: &[u8],
-    sought: &Found,
-    found: &mut FoundAt,
-    value: &mut [u8],
-    fault: &mut FaultAt,
-) -> u32
-    requires short { length file.now ≤ 2 ^ 60 }
-    requires below { sought.now.position < length file.now }
-    ensures status { (result ≡ 0) ⊎ (result ≡ 1) ⊎ (result ≡ 4) }
-    ensures told { (result ≡ 0) ⊎ (result ≡ 4) → HoldsFound file.now sought.now found.new }
-    ensures given { result ≡ 0 → take (length sought.now.bytes) value.new ≡ sought.now.bytes }
-    ensures room { result ≡ 4 → length value.old < length sought.now.bytes }
-    ensures refused { result ≡ 1 → TellsFault (IsHolderFault file.now sought.now.position) fault.new }
-{
-    match holder(
-        &mut SliceStore::new(file),
-        file.len() as u64,
-        sought.position,
-    ) {
-        Ok(Some(begin)) => give_found(sought, begin, found, value),
-        Ok(None) => unreachable!(),
-        Err(HolderEnd::Refused(met)) => {
-            *fault = FaultAt::of(&met);
-            1
-        }
-        Err(HolderEnd::Store) => unreachable!(),
     }
 }

@@ -117,11 +117,11 @@ module _ (key file : List ℕ) where
                     let holds : HasRecordsAt file place records = record { without_fault = none; holds = simple } in
                     elim (first_not key records) [
                       | inl first ↦
-                          let found : Found = record { position = place + first.number; bytes = first.bytes } in
+                          let found : Found = record { begin = place; position = place + first.number; bytes = first.bytes } in
                           inl (
                             Some found,
                             read_record (IsBelow key) file 0 place records found read passed holds
-                                (first.number, first.stands, refl, first.apart, first.before),
+                                (first.number, first.stands, refl, refl, first.apart, first.before),
                           )
                       | inr all ↦
                           on (read_records (IsBelow key) file 0 place records read passed (omega (arith, some, simple.num_records)) holds all)

@@ -1,6 +1,7 @@
 ghost use Rattle.std.specs.Prelude.{◌≡◌, ◌≤◌, ◌^◌, Some, Err, IfOk, IfSome};
 ghost use Rattle.record_io.specs.Calls.{HasSize, OnlyAsks};
 ghost use Rattle.chunk_reader.specs.declared.reasons.Fault.{Fault};
+ghost use Rattle.record_seek.specs.Begins.{StandsIfFound};
 ghost use Rattle.record_seek.specs.Steps.{LoadsMetChunk, placed_of};
 ghost use Rattle.seek_command.specs.Searches.{is_below, MayFind, IsKeyFault, MayGive, MayRefuse, TakesOf, TakesBySize};
 ghost use Rattle.seek_command.specs.declared.seek_words.By.TheVariants as by;
@@ -44,6 +45,7 @@ pub fn find_by_key<S: Store>(
 ) -> Result<Option<Found>, ReadEnd>
     requires { HasSize (S.told file.old) size }
     ensures found { IfOk result (λ found. IfSome (S.bytes file.old) (λ bytes. MayFind key.now bytes (placed_of found))) }
+    ensures begin { IfOk result (StandsIfFound (S.bytes file.old)) }
     ensures refused { (fault : Fault) → result ≡ Err (ReadEnd.Refused fault) → IfSome (S.bytes file.old) (λ bytes. IsKeyFault bytes fault) }
     ensures memory { result ≡ Err ReadEnd.Memory → IfSome (S.bytes file.old) LoadsMetChunk }
     ensures handed { IfSome (S.bytes file.old) (λ bytes. TakesOf (by.Key key.now) bytes (S.handed file.old) (S.handed file.new)) }

@@ -3,6 +3,7 @@ use Rattle.chunk_reader.proofs.Loads as loads
 use Rattle.chunk_reader.proofs.Rooms.{IsSized}
 use Rattle.record_seek.specs.KeyTests.{StandsBefore}
 use Rattle.record_seek.specs.Steps.{IsReadOn, IsLook}
+use Rattle.record_seek.proofs.Begun.{reads-begun}
 use Rattle.record_seek.proofs.Finding.{begins-front, begins-at, block-met, fault-met, loads-met}
 use Rattle.record_seek.proofs.FoundByKey.{found-in, in-order}
 use Rattle.record_seek.proofs.Halves.{halved-begun, halved-up, halved-down, takes-look, takes-begin, takes-reading}
@@ -136,3 +137,10 @@ returns-clause-memory g c =
     let given = c.in_ok-begin.ensures in
     loads-met _ _ _ c.loop-high.low c.in_ok-begin.begin kept.asks.same_bytes (given.store.asks.same_bytes ∙ kept.asks.same_bytes) given.begin
     (c.read_on.ensures.memory e)
+
+pub returns-clause-begin : goal.returns-clause-begin
+returns-clause-begin g c =
+    let kept = c.loop-high.invariant in
+    let given = c.in_ok-begin.ensures in
+    reads-begun (StandsBefore g.F.Fn c.args.test.now.test) _ _ _ c.loop-high.low c.in_ok-begin.begin c.read_on.result kept.asks.same_bytes
+    (given.store.asks.same_bytes ∙ kept.asks.same_bytes) given.begin c.read_on.ensures.read

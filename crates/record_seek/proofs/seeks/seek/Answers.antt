@@ -5,6 +5,7 @@ use Rattle.chunk_reader.specs.Reasons.{Applies, NoneOf, unpassed_reasons}
 use Rattle.chunk_reader.specs.PositionSearches.{AnswersAt}
 use Rattle.chunk_reader.proofs.Loads as loads
 use Rattle.chunk_reader.proofs.Rooms.{IsSized}
+use Rattle.record_seek.proofs.Begun.{numbered-begun}
 use Rattle.record_seek.proofs.Seeking.{refused_before, refused-holder, refused-search, answers, refused-answer, gives-answer, gives-nothing, memory-for, memory-in, SearchTakes, takes-headers, takes-record}
 use Rattle.record_seek.proofs.seeks.seek.Goals as goal
 use Rattle.record_seek.proofs.seeks.seek.Goals.{Start, In-Some, In-Some-2}
@@ -143,3 +144,9 @@ returns-clause-handed g c = takes g (goal.at.returns-clause-handed g c).In-Some-
 pub returns-clause-handed_past : goal.returns-clause-handed_past
 returns-clause-handed_past g c =
     λ past. absurd (omega (arith, past, below g (goal.at.returns-clause-handed_past g c).In-Some))
+
+pub returns-clause-begin : goal.returns-clause-begin
+returns-clause-begin g c =
+    numbered-begun _ _ c.args.at c.in-Some-2.place _ c.in_ok-chunk.chunk _
+    (c.in_ok-place.ensures.store.same_bytes ∙ c.in_ok-begin.ensures.store.same_bytes)
+    (answering g (goal.at.returns-clause-begin g c).In-Some-2) c.in_ok-chunk.ensures.begin c.in_ok-chunk.ensures.there c.in_ok-record_of.ensures
