@@ -33,3 +33,5 @@ mod side_by_side;
 mod stand_ins;
 #[cfg(test)]
 mod streams;
+#[cfg(test)]
+mod windows;

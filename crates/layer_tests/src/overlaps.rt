@@ -5,10 +5,14 @@ use crate::byte_files::{ByteFeed, file_between, options, sink};
 use crate::meetings::{
     FEED, FIRST_EIGHT, Guest, Meeting, MeetingCoder, MeetingSink, SINK, flag_of,
 };
+use chunk_workers::{CodedChunks, Coder};
 use record_io::{Bytes, Sink};
 use record_writer::{FeedEnd, RecordFeed, write_coded};
+use simple_chunk::RecordsRef;
 use std::alloc::{AllocError, Global};
+use std::hint;
 use std::process::Abort;
+use std::sync::atomic::{AtomicBool, AtomicU32, Ordering};
 use std::test::Fail;
 use std::thread::Threads;
 
@@ -89,6 +93,70 @@ fn as_many_threads_encode_at_once_as_there_are_workers(rt: HostRuntime) -> Resul
     write_at_once(&rt, rt.alloc(), 2, 0b11)?;
     write_at_once(&rt, rt.alloc(), 4, 0b1111)?;
     write_at_once(&rt, rt.alloc(), 16, 0xffff)?;
+    Ok(())
+}
+
+/// Waits on each group for a while until more groups are encoded at once than there are workers.
+#[derive(Drop)]
+struct CrowdedCoder {
+    workers: u32,
+    at_once: AtomicU32,
+    was_crowded: AtomicBool,
+}
+
+impl Coder for CrowdedCoder {
+    ghost use Rattle.chunk_header.specs.SimpleChunks.{simple_chunk};
+
+    ghost chunk_of = { λ _ records. simple_chunk records };
+
+    fn code(&self, group: &RecordsRef<'_>, coded: &mut CodedChunks) -> Result<(), AllocError> {
+        self.at_once.fetch_add(1, Ordering::SeqCst);
+        for _ in 0..1_000_000 {
+            if self.at_once.load(Ordering::SeqCst) > self.workers {
+                self.was_crowded.store(true, Ordering::SeqCst);
+                break;
+            }
+            hint::spin_loop();
+        }
+        coded.push_simple(group)?;
+        self.at_once.fetch_sub(1, Ordering::SeqCst);
+        Ok(())
+    }
+}
+
+/// Writes a window of four records for each worker, by so many workers.
+fn write_uncrowded<R: Threads + Abort + Sync>(
+    rt: &R,
+    alloc: Global,
+    workers: u8,
+) -> Result<(), AllocError>
+    requires { (1 ≤ workers) × (workers ≤ 16) }
+{
+    let coder = CrowdedCoder {
+        workers: workers as u32,
+        at_once: AtomicU32::new(0),
+        was_crowded: AtomicBool::new(false),
+    };
+    let mut feed = ByteFeed {
+        next: 0,
+        end: 4 * workers,
+    };
+    let mut made = sink(alloc)?;
+    let options = options(1, workers as u32);
+    let end = write_coded(rt, alloc, &options, &coder, &mut feed, &mut made);
+    assert!(rt; end.is_ok());
+    assert!(rt;
+        !coder.was_crowded.load(Ordering::SeqCst),
+        "{workers} workers"
+    );
+    Ok(())
+}
+
+#[test]
+fn no_more_threads_encode_at_once_than_there_are_workers(rt: HostRuntime) -> Result<(), Fail> {
+    for workers in [1, 2, 4] {
+        write_uncrowded(&rt, rt.alloc(), workers)?;
+    }
     Ok(())
 }
 
