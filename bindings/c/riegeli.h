@@ -72,11 +72,10 @@ struct riegeli_chunk {
     uint32_t what;      /* enum riegeli_what */
 };
 
-/* A record that was found. In the chunk that holds its position it has the number position - begin, from 0 on; but if it was
- * found by riegeli_find, only where the file has no fault. */
+/* A record that was found. In its chunk it has the number position - begin, from 0 on. */
 struct riegeli_found {
     uint64_t position;
-    uint64_t begin;     /* of that chunk */
+    uint64_t begin;     /* of its chunk */
     uint64_t bytes;     /* of the record */
 };
 

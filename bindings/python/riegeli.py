@@ -27,19 +27,23 @@ import array
 import contextlib
 import ctypes
 import enum
+import io
 import itertools
 import mmap
+import operator
 import os
 import stat
 import threading
 import uuid
 import warnings
-from collections.abc import Iterable, Iterator
+from collections.abc import Iterable, Iterator, Sequence
 from typing import NamedTuple, Union
 
 __all__ = [
-    "Chunk", "Fault", "Found", "Reader", "Reason", "Region", "Repaired", "Stopped", "Totals", "Writer", "hash", "repair", "verify",
+    "Chunk", "Error", "Fault", "Found", "Reader", "Reason", "Region", "Repaired", "Stopped", "Totals", "Writer", "hash", "repair",
+    "verify",
 ]
+__version__ = "1.0.0"
 
 # What `riegeli_version` has to answer.
 _VERSION = 1
@@ -72,7 +76,11 @@ class Reason(enum.IntEnum):
     Contradicted = 12
 
 
-class Fault(Exception):
+class Error(Exception):
+    """What is wrong with a file, and no wrong call: a `Fault`, or `Stopped`."""
+
+
+class Fault(Error):
     """The file has a fault at the byte `place`, for the `Reason` that `reason` tells."""
 
     def __init__(self, place: int, reason: int) -> None:
@@ -92,7 +100,7 @@ class Region(NamedTuple):
     reason: Reason
 
 
-class Stopped(Exception):
+class Stopped(Error):
     """A repair ended at a region of more bytes than may be passed over. What comes before it was made."""
 
     def __init__(self, region: Region) -> None:
@@ -127,7 +135,7 @@ class Repaired(NamedTuple):
     regions: list[Region]
 
 
-class Chunk:
+class Chunk(Sequence):
     """The records of one chunk: a sequence of `bytes`.
 
     begin, end  where the chunk begins, and where the next one does; record i has the position begin + i
@@ -148,13 +156,20 @@ class Chunk:
     def __len__(self) -> int:
         return len(self.ends)
 
-    def __getitem__(self, place: int) -> bytes:
+    def __getitem__(self, place: int | slice) -> bytes | list[bytes]:
+        if isinstance(place, slice):
+            return [self[i] for i in range(*place.indices(len(self)))]
         end = self.ends[place]
         i = place if place >= 0 else place + len(self)
         return self.values[self.ends[i - 1] if i > 0 else 0 : end]
 
     def __iter__(self) -> Iterator[bytes]:
         return map(self.values.__getitem__, map(slice, itertools.chain((0,), self.ends), self.ends))
+
+    def __eq__(self, other: object) -> bool:
+        if not isinstance(other, Chunk):
+            return NotImplemented
+        return (self.begin, self.end, self.values, self.ends) == (other.begin, other.end, other.values, other.ends)
 
     def items(self) -> Iterator[tuple[int, bytes]]:
         """Each record with its position before it."""
@@ -173,18 +188,19 @@ class Reader:
 
     def __init__(self, path: _Path) -> None:
         """Opens a file, which has to be a regular one. Nothing of it is judged yet."""
-        self._data: object = _mapped(path)
-        self._path: _Path | None = path
-        self.size = len(self._data)
+        self._begin(*_mapped(path), path)
 
     @classmethod
     def over(cls, data: bytes | bytearray | memoryview | mmap.mmap) -> Reader:
         """A reader of a file whose bytes are in memory."""
         reader = cls.__new__(cls)
-        reader._data = memoryview(data).cast("B") if memoryview(data).nbytes else b""
-        reader.size = len(reader._data)
-        reader._path = None
+        reader._begin(memoryview(data).cast("B") if memoryview(data).nbytes else b"", None, None)
         return reader
+
+    def _begin(self, data: object, about: os.stat_result | None, path: _Path | None) -> None:
+        self._data, self._about, self._path, self.size = data, about, path, len(data)
+        # Room for a found record, while no call uses it.
+        self._spare: list[ctypes.Array] = []
 
     def close(self) -> None:
         """Gives the file up. A call that another thread is in ends as ever."""
@@ -199,6 +215,13 @@ class Reader:
 
     def __repr__(self) -> str:
         return f"<riegeli.Reader {'of bytes' if self._path is None else repr(self._path)}{'' if self._data is not None else ', closed'}>"
+
+    def __reduce__(self) -> tuple[object, ...]:
+        """A copy, by pickle too, opens the file anew, by its absolute path; bytes in memory are handed on."""
+        with self._lent():
+            if self._path is None:
+                return type(self).over, (bytes(self._data),)
+            return type(self), (os.path.abspath(self._path),)
 
     def __iter__(self) -> Iterator[bytes]:
         return self.records()
@@ -217,7 +240,7 @@ class Reader:
         Both have to be places where a chunk begins, as `split` gives them; a chunk that reaches past `end` is a
         `ValueError`. So parts that end where the next one begins have no record in common and leave none out.
         """
-        end = self.size if end is None else min(end, self.size)
+        end = self.size if end is None else min(_number(end), self.size)
         room = _Rooms(self.size)
         chunk, fault = _Chunk(), _Fault()
         at = _number(begin)
@@ -283,7 +306,7 @@ class Reader:
 
         Where they aren't, it is one that isn't less, and the first or right behind one that is less.
         """
-        key = bytes(memoryview(key))
+        key = _bytes(key)
         return self._found("riegeli_find", key, len(key))
 
     def split(self, at: int) -> int:
@@ -311,9 +334,10 @@ class Reader:
         it. A file that is there stays until the new one takes its place. It may not be the one that is read.
         """
         most = (1 << 64) - 1 if most is None else _number(most)
-        if self._path is not None and os.path.exists(to) and os.path.samefile(self._path, to):
+        if self._about is not None and os.path.exists(to) and os.path.samestat(self._about, os.stat(to)):
             raise ValueError(f"{to!r} is the file that is read")
-        with _taking_place(to) as descriptor:
+        with _NewFile(to) as file:
+            descriptor = file.fileno()
             repaired, lines, region = _Repaired(), ctypes.create_string_buffer(1 << 16), _Region()
             size = self.size + (1 << 17)
             while True:
@@ -334,17 +358,22 @@ class Reader:
         return Repaired(repaired.bytes, [Region(int(begin), int(end), Reason[why]) for _, begin, end, why in words])
 
     def _found(self, name: str, *sought: object) -> Found | None:
-        found, fault, size = _Found(), _Fault(), 1 << 12
-        while True:
-            value = ctypes.create_string_buffer(size)
-            status = self._call(name, *sought, found, value, size, fault)
+        found, fault = _Found(), _Fault()
+        try:
+            value = self._spare.pop()
+        except IndexError:
+            value = ctypes.create_string_buffer(min(self.size, 1 << 20) or 1)
+        try:
+            status = self._call(name, *sought, found, value, len(value), fault)
+            if status == _ROOM:
+                value = ctypes.create_string_buffer(found.bytes)
+                status = self._call(name, *sought, found, value, len(value), fault)
             if status == _NOTHING:
                 return None
-            if status != _ROOM:
-                break
-            size = found.bytes
-        _raise(status, fault)
-        return Found(found.position, ctypes.string_at(value, found.bytes), found.begin)
+            _raise(status, fault)
+            return Found(found.position, ctypes.string_at(value, found.bytes), found.begin)
+        finally:
+            self._spare.append(value)
 
     def _why_unread(self, begin: int) -> Reason:
         """Whether the chunk there is compressed or transposed: byte 24 of its header tells, where no block header counts."""
@@ -366,20 +395,23 @@ class Reader:
 
 
 class Writer:
-    """Makes a record file of records as they come, and is a context manager. One that is there is emptied.
+    """Makes a record file of records as they come, and is a context manager.
+
+    It is made under another name in the same folder, and `close` puts it in its place. A file that is there stays until then,
+    and where an exception ends the `with`. A pipe or a device is written as records come.
 
     chunk  the records of a chunk cost at most so many bytes together, where a record costs its bytes and 8 more; a record
            that costs more stands alone in its chunk
     every  a chunk has at most so many records
     pad    "start": the first chunk of records begins at a block; "end": the file ends at a block; "both": both
 
-    The file is what `riegeli write` makes of the same records with the same options. Records of chunks that aren't full yet
-    are held until `close`, which has to be called, or the end of `with`: a writer that is dropped without that warns of the
-    records that are lost. When a call fails the file isn't whole, and each later call says so.
+    The file is what `riegeli write` makes of the same records with the same options. A writer that is dropped without `close`
+    makes none, and warns of it. When a call fails no file is made, and each later call says so. Several threads may use a
+    writer: each record whose `write` has returned is in the file, also where another thread closes it.
     """
 
     def __init__(self, path: _Path, chunk: int = 1 << 20, every: int | None = None, pad: str | None = None) -> None:
-        self._file = None
+        self._new: _NewFile | None = None
         if not 1 <= chunk <= _MOST:
             raise ValueError(f"chunk is from 1 to {_MOST}, and not {chunk}")
         if every is not None and not 1 <= every <= _MOST:
@@ -395,88 +427,108 @@ class Writer:
         self._at = 0
         self._room = ctypes.create_string_buffer(1 << 16)
         self._lock = threading.Lock()
-        self._failed = False
-        self._file = open(path, "wb", buffering=0)
+        self._ended: str | None = None
+        self._new = _NewFile(path)
 
     def write(self, record: bytes) -> None:
         """Puts a record behind those before, of at most 16,777,216 bytes."""
-        if self._file is None:
-            raise ValueError("the writer is closed")
-        if self._failed:
-            raise ValueError(_NOT_WHOLE)
-        if type(record) is not bytes:
-            record = bytes(memoryview(record))
-        if len(record) > _MOST:
-            raise ValueError(f"a record has at most {_MOST} bytes, and not {len(record)}")
-        self._waiting.append(record)
-        self._cost += len(record) + 8
-        if self._cost > self._most:
-            self._put(last=False)
+        record = _record(record)
+        self._take((record,), len(record) + 8)
 
     def write_all(self, records: Iterable[bytes]) -> None:
         """Puts records behind those before, in their order."""
-        for record in records:
-            self.write(record)
+        taken, cost = [], 0
+        try:
+            for record in map(_record, records):
+                taken.append(record)
+                cost += len(record) + 8
+                # Not one by one, since the lock costs more than a short record.
+                if cost > 1 << 16:
+                    batch, taken = taken, []
+                    self._take(batch, cost)
+                    cost = 0
+        finally:
+            if taken:
+                self._take(taken, cost)
+
+    def flush(self) -> None:
+        """Writes the chunks that are full. The last one stays open, since records may follow: `close` writes it."""
+        with self._lock:
+            self._check_open()
+            self._put_full()
 
     def close(self) -> None:
-        """Writes what was held, and gives the file up. Nothing is synced."""
-        if self._file is None:
-            return
-        try:
-            if self._failed:
-                raise ValueError(_NOT_WHOLE)
-            self._put(last=True)
-        finally:
-            file, self._file = self._file, None
-            file.close()
+        """Writes what was held, and puts the file in its place. Nothing is synced."""
+        with self._lock:
+            if self._ended == _CLOSED:
+                return
+            failed, self._ended = self._ended, _CLOSED
+            if failed is not None:
+                raise ValueError(failed)
+            with self._new:
+                self._put(last=True)
 
     def __enter__(self) -> Writer:
-        if self._file is None:
-            raise ValueError("the writer is closed")
+        self._check_open()
         return self
 
     def __exit__(self, kind: object, *_: object) -> None:
-        if self._failed and kind is not None:
-            # What is being raised tells of it already.
-            file, self._file = self._file, None
-            file.close()
-        else:
+        if kind is None:
             self.close()
+        else:
+            with self._lock:
+                self._discard(_CLOSED)
 
     def __del__(self) -> None:
-        if getattr(self, "_file", None) is not None:
-            self._file.close()
-            if not self._failed:
-                lost = f"{self._path!r} was not closed: {len(self._waiting)} records are not in it"
-                warnings.warn(f"the riegeli.Writer of {lost}", RuntimeWarning)
+        if self._new is not None and self._ended is None:
+            self._discard(_CLOSED)
+            warnings.warn(f"the riegeli.Writer of {self._path!r} was not closed, and its file is not made", RuntimeWarning)
 
     def __repr__(self) -> str:
-        state = "closed" if self._file is None else "failed" if self._failed else f"{self._at} bytes"
+        state = "closed" if self._ended == _CLOSED else "failed" if self._ended else f"{self._at} bytes"
         return f"<riegeli.Writer {self._path!r}, {state}>"
+
+    def _check_open(self) -> None:
+        if self._ended is not None:
+            raise ValueError(self._ended)
+
+    def _take(self, records: Iterable[bytes], cost: int) -> None:
+        with self._lock:
+            self._check_open()
+            self._waiting += records
+            self._cost += cost
+            if self._cost > self._most:
+                self._put_full()
+
+    def _discard(self, why: str) -> None:
+        """Takes no more records, and makes no file."""
+        if self._ended is None:
+            self._new.discard()
+        self._ended = why
+
+    def _put_full(self) -> None:
+        try:
+            self._put(last=False)
+        except BaseException:
+            self._discard(_FAILED)
+            raise
 
     def _put(self, last: bool) -> None:
         """Lays the chunks that are full, or with `last` all, and writes them."""
-        with self._lock:
-            if self._failed:
-                raise ValueError(_NOT_WHOLE)
-            records = self._waiting[:]
-            try:
-                laid, size = self._lay(records, last)
-                left = memoryview(self._room)[:size]
-                while left:
-                    left = left[self._file.write(left) :]
-            except BaseException:
-                self._failed = True
-                raise
-            self._at += size
-            del self._waiting[:laid]
-            self._cost = sum(map(len, records[laid:])) + 8 * (len(records) - laid)
-            if size > 0:
-                # Padding at the start is laid once.
-                self._options.pad &= ~_PADS["start"]
+        laid, size = self._lay(last)
+        left = memoryview(self._room)[:size]
+        while left:
+            left = left[self._new.file.write(left) :]
+        self._at += size
+        del self._waiting[:laid]
+        self._cost = sum(map(len, self._waiting)) + 8 * len(self._waiting)
+        if size > 0:
+            # Padding at the start is laid once.
+            self._options.pad &= ~_PADS["start"]
 
-    def _lay(self, records: list[bytes], last: bool) -> tuple[int, int]:
+    def _lay(self, last: bool) -> tuple[int, int]:
         """Lays chunks in the room: how many records are in them, and how many bytes they have."""
+        records = self._waiting
         values = b"".join(records)
         # One more than there are records, so that there is memory also for none.
         ends = array.array("Q", itertools.accumulate(map(len, records), initial=0))
@@ -511,7 +563,8 @@ def hash(data: bytes | bytearray | memoryview) -> int:
         return _library.riegeli_hash(*bytes_and_size)
 
 
-_NOT_WHOLE = "an earlier call of this writer failed, and its file isn't whole"
+# Why a writer takes no more records.
+_CLOSED, _FAILED = "the writer is closed", "an earlier call of this writer failed, and its file is not made"
 
 
 def _raise(status: int, fault: _Fault | None, wrong: str = "the file has more than 2^60 bytes") -> None:
@@ -528,49 +581,95 @@ def _raise(status: int, fault: _Fault | None, wrong: str = "the file has more th
 
 def _number(number: int) -> int:
     """A number that fits the calls, which would cut a larger one."""
+    number = operator.index(number)
     if not 0 <= number < 1 << 64:
         raise ValueError(f"{number} is no number from 0 to 2^64 - 1")
     return number
 
 
-def _mapped(path: _Path) -> bytes | mmap.mmap:
-    descriptor = os.open(path, os.O_RDONLY | os.O_NONBLOCK)
+def _record(record: object) -> bytes:
+    """A record as `bytes`, where it isn't too long to be written."""
+    if type(record) is not bytes:
+        record = _bytes(record)
+    if len(record) > _MOST:
+        raise ValueError(f"a record has at most {_MOST} bytes, and not {len(record)}")
+    return record
+
+
+def _bytes(data: object) -> bytes:
     try:
-        about = os.fstat(descriptor)
+        return bytes(memoryview(data))
+    except TypeError:
+        raise TypeError(f"a bytes-like object is required, not {type(data).__name__!r}") from None
+
+
+def _mapped(path: _Path) -> tuple[bytes | mmap.mmap, os.stat_result]:
+    """The bytes of a file, and what the system tells of it."""
+    with open(path, "rb", buffering=0, opener=lambda path, flags: os.open(path, flags | os.O_NONBLOCK)) as file:
+        about = os.fstat(file.fileno())
         if not stat.S_ISREG(about.st_mode):
             raise ValueError(f"{path!r} is no regular file")
-        return mmap.mmap(descriptor, 0, access=mmap.ACCESS_READ) if about.st_size else b""
-    finally:
-        os.close(descriptor)
+        return mmap.mmap(file.fileno(), 0, access=mmap.ACCESS_READ) if about.st_size else b"", about
 
 
-@contextlib.contextmanager
-def _taking_place(path: _Path) -> Iterator[int]:
-    """A new file, which takes the place of a path once all went well."""
-    path = os.fsdecode(path)
-    new = f"{path}.{uuid.uuid4().hex}.new"
-    descriptor = os.open(new, os.O_RDWR | os.O_CREAT | os.O_EXCL, 0o666)
-    try:
+class _NewFile:
+    """A file that takes the place of a path once all went well, with its mode. A pipe or a device there is opened itself."""
+
+    def __init__(self, path: _Path) -> None:
         try:
-            yield descriptor
-        finally:
-            os.close(descriptor)
-        os.replace(new, path)
-    except BaseException:
-        os.unlink(new)
-        raise
+            mode = os.stat(path).st_mode
+        except FileNotFoundError:
+            mode = None
+        self._new = None
+        if mode is not None and not stat.S_ISREG(mode):
+            self.file = open(path, "wb", buffering=0)
+            return
+        # A link stays, and what it leads to is replaced.
+        self._path = os.path.realpath(os.fsdecode(path))
+        self._new = f"{self._path}.{uuid.uuid4().hex}.new"
+        try:
+            self.file = open(self._new, "x+b", buffering=0)
+        except OSError as error:
+            error.filename = os.fspath(path)
+            raise
+        if mode is not None:
+            os.fchmod(self.file.fileno(), stat.S_IMODE(mode))
+
+    def __enter__(self) -> io.FileIO:
+        return self.file
+
+    def __exit__(self, kind: object, *_: object) -> None:
+        if kind is not None:
+            self.discard()
+            return
+        try:
+            self.file.close()
+            if self._new is not None:
+                os.replace(self._new, self._path)
+        except BaseException:
+            self.discard()
+            raise
+
+    def discard(self) -> None:
+        self.file.close()
+        if self._new is not None:
+            os.unlink(self._new)
 
 
 class _Rooms:
     """Room for the records of a chunk: their bytes, and where they end. It grows as chunks need it."""
 
     def __init__(self, size: int) -> None:
-        self.grow(min(size, 1 << 20), min(size, 1 << 17))
+        # Never without an element, so that there is memory to point at.
+        self._values = ctypes.create_string_buffer(min(size, 1 << 20) or 1)
+        self._ends = array.array("Q", bytes(8 * (min(size, 1 << 17) or 1)))
 
     def grow(self, size: int, records: int) -> None:
-        # Never without an element, so that there is memory to point at.
-        self._values = ctypes.create_string_buffer(max(size, 1))
-        self._ends = array.array("Q", bytes(8 * max(records, 1)))
+        """Makes room for a chunk, and by doubling for larger ones, since one that doesn't fit is decoded twice."""
+        if size > len(self._values):
+            self._values = ctypes.create_string_buffer(max(size, 2 * len(self._values)))
+        if records > len(self._ends):
+            self._ends = array.array("Q", bytes(8 * max(records, 2 * len(self._ends))))
 
     def values(self) -> tuple[object, int]:
         return self._values, len(self._values)
@@ -666,12 +765,12 @@ def _load() -> ctypes.CDLL:
         places = [*filter(os.path.exists, files), name]
     try:
         library = ctypes.CDLL(places[0])
-    except OSError as error:
+        for call, (answer, *words) in _CALLS.items():
+            function = getattr(library, call)
+            function.argtypes, function.restype = words, answer
+    except (OSError, AttributeError) as error:
         wanted = "bindings/c/build makes it, and RIEGELI_LIBRARY says where it is"
         raise ImportError(f"riegeli: the library could not be loaded ({error}); {wanted}") from None
-    for call, (answer, *words) in _CALLS.items():
-        function = getattr(library, call)
-        function.argtypes, function.restype = words, answer
     if library.riegeli_version() != _VERSION:
         raise ImportError(f"riegeli: {places[0]} is version {library.riegeli_version()}, and this module is for {_VERSION}")
     return library

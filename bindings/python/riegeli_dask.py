@@ -12,14 +12,31 @@ from __future__ import annotations
 
 import glob
 import os
+import shutil
 import uuid
 from collections.abc import Iterable, Sequence
 
 import dask
 import dask.bag
 import riegeli
+from dask.highlevelgraph import HighLevelGraph
 
-__all__ = ["read", "write"]
+__all__ = ["WriteError", "read", "write"]
+
+# Stands in a folder where `write` has put all files of a bag, as Hadoop and Spark have it.
+_SUCCESS = "_SUCCESS"
+
+
+class WriteError(riegeli.Error):
+    """The `partition` of a bag, by its number from 0 on, could not be written, for what `__cause__` tells."""
+
+    def __init__(self, partition: int, cause: Exception) -> None:
+        super().__init__(partition, cause)
+        self.partition = partition
+        self.__cause__ = cause
+
+    def __str__(self) -> str:
+        return f"partition {self.partition}: {self.__cause__!r}"
 
 
 def read(paths: str | os.PathLike[str] | Sequence[str | os.PathLike[str]], part_bytes: int = 1 << 26) -> dask.bag.Bag:
@@ -39,26 +56,45 @@ def read(paths: str | os.PathLike[str] | Sequence[str | os.PathLike[str]], part_
     return dask.bag.from_delayed(parts)
 
 
-def write(bag: dask.bag.Bag, folder: str | os.PathLike[str], chunk: int = 1 << 20, every: int | None = None) -> list[str]:
+def write(
+    bag: dask.bag.Bag,
+    folder: str | os.PathLike[str],
+    chunk: int = 1 << 20,
+    every: int | None = None,
+    overwrite: bool = False,
+) -> list[str]:
     """Makes a file in a folder for each partition of a bag of `bytes`, and gives their paths in the order of the bag.
 
     Each file begins and ends at a block, so that `riegeli join` puts them together without padding between them. The folder
-    is made where it isn't there. It may hold no such files yet, since they would be taken for some of these.
+    is made where it isn't there. The files are put into it once all of them are made, and last the empty file `_SUCCESS`:
+    where one can't be made, none is. Files of an earlier call are refused, or with `overwrite` replaced.
     """
     folder = os.path.abspath(folder)
-    os.makedirs(folder, exist_ok=True)
-    if any(name.startswith("part-") for name in os.listdir(folder)):
+    if _files(folder) and not overwrite:
         raise FileExistsError(f"{folder!r} has files of parts already")
-    parts = bag.to_delayed()
-    digits = len(str(len(parts)))
-    paths = [os.path.join(folder, f"part-{i:0{digits}}.riegeli") for i in range(len(parts))]
+    digits = len(str(bag.npartitions))
+    names = [f"part-{i:0{digits}}.riegeli" for i in range(bag.npartitions)]
     unfinished = os.path.join(folder, f".{uuid.uuid4().hex}")
+    os.makedirs(unfinished)
     try:
-        return list(dask.compute(*[dask.delayed(_made)(*it, unfinished, chunk, every) for it in zip(parts, paths)]))
-    finally:
-        # What workers left that were killed.
-        for path in glob.glob(f"{glob.escape(unfinished)}-*"):
+        task = f"riegeli-write-{uuid.uuid4().hex}"
+        tasks = {
+            (task, i): (_made, (bag.name, i), i, os.path.join(unfinished, name), chunk, every) for i, name in enumerate(names)
+        }
+        dask.bag.Bag(HighLevelGraph.from_collections(task, tasks, [bag]), task, len(names)).compute()
+        for path in _files(folder):
             os.unlink(path)
+        for name in names:
+            os.rename(os.path.join(unfinished, name), os.path.join(folder, name))
+        open(os.path.join(folder, _SUCCESS), "x").close()
+    finally:
+        shutil.rmtree(unfinished, ignore_errors=True)
+    return [os.path.join(folder, name) for name in names]
+
+
+def _files(folder: str) -> list[str]:
+    """What calls of `write` put into a folder: first the file that says that the others are whole."""
+    return [path for name in (_SUCCESS, "part-*.riegeli") for path in glob.glob(os.path.join(glob.escape(folder), name))]
 
 
 def _part(path: str, size: int, at: int, part_bytes: int) -> list[bytes]:
@@ -68,10 +104,11 @@ def _part(path: str, size: int, at: int, part_bytes: int) -> list[bytes]:
         return list(reader.records(reader.split(at), reader.split(at + part_bytes)))
 
 
-def _made(records: Iterable[bytes], path: str, unfinished: str, chunk: int, every: int | None) -> str:
-    """Makes a file, which takes its place whole: another worker may make the same one."""
-    new = f"{unfinished}-{uuid.uuid4().hex}"
-    with riegeli.Writer(new, chunk, every, pad="both") as writer:
-        writer.write_all(records)
-    os.replace(new, path)
-    return path
+def _made(records: Iterable[bytes], partition: int, path: str, chunk: int, every: int | None) -> list[str]:
+    """Makes the file of a partition: another worker may make the same one."""
+    try:
+        with riegeli.Writer(path, chunk, every, pad="both") as writer:
+            writer.write_all(records)
+    except Exception as error:
+        raise WriteError(partition, error) from error
+    return [path]

@@ -6,6 +6,7 @@ script/package, as
 where the time of each file is so many seconds past 1970. The same files give the same bytes. It needs nothing else."""
 import base64
 import hashlib
+import re
 import subprocess
 import sys
 import time
@@ -14,7 +15,8 @@ from pathlib import Path
 
 HERE = Path(__file__).resolve().parent
 MODULES = ["riegeli.py", "riegeli_dask.py"]
-VERSION, FIRST_OF_1980 = "1.0.0", 315532800
+VERSION = re.search(r'(?m)^__version__ = "(.+)"$', (HERE / "riegeli.py").read_text())[1]
+FIRST_OF_1980 = 315532800
 TAG = "py3-none-manylinux_2_17_x86_64"
 METADATA = """\
 Metadata-Version: 2.1
@@ -59,7 +61,8 @@ def built():
     """The shared library, which bindings/c/build makes where it isn't there."""
     folder = HERE.parent / "c/out/lib"
     if not any(folder.glob("libriegeli.so.*")):
-        subprocess.run([HERE.parent / "c/build"], check=True)
+        if subprocess.run([HERE.parent / "c/build"]).returncode != 0:
+            sys.exit("riegeli_wheel: bindings/c/build could not make the library")
     return next(folder.glob("libriegeli.so.*"))
 
 

@@ -1,17 +1,23 @@
 """Tests of the module `riegeli`, of what no clause of the library says."""
+import contextlib
 import gc
 import hashlib
 import os
 import pickle
 import random
+import re
+import shutil
 import struct
 import subprocess
 import sys
 import tempfile
 import threading
+import time
 import unittest
 import warnings
+from collections.abc import Sequence
 from pathlib import Path
+from unittest import mock
 
 sys.path.insert(0, str(Path(__file__).resolve().parent))
 import riegeli  # noqa: E402
@@ -77,12 +83,40 @@ class Reading(Case):
             self.assertEqual((first.begin, first.end, first.values, list(first.ends)), (64, 110, b"ab", [1, 2]))
             self.assertEqual((second[0], second[1], second[-1], second[-2], len(second)), (b"c", b"", b"", b"c", 2))
             self.assertEqual(list(third.items()), [(third.begin, b"de")])
-            self.assertIn(b"c", second)
             with self.assertRaises(IndexError):
                 second[2]
             self.assertEqual(list(pickle.loads(pickle.dumps(second))), [b"c", b""])
             self.assertEqual(reader.verify(), (4, 5, self.path.stat().st_size, 0))
             self.assertEqual(riegeli.verify(self.path).records, 5)
+
+    def test_a_chunk_is_a_sequence(self):
+        records = [b"a", b"", b"bc", b"a", b"d"]
+        data = self.written(records).read_bytes()
+        (chunk,), (same,) = Reader.over(data).chunks(), Reader(self.path).chunks()
+        self.assertIsInstance(chunk, Sequence)
+        for it in slice(None), slice(1, 3), slice(-2, None), slice(None, None, -2), slice(7, 9):
+            self.assertEqual(chunk[it], records[it])
+        self.assertEqual((chunk.index(b"bc"), chunk.index(b"a", 1), chunk.count(b"a")), (2, 3, 2))
+        self.assertEqual(list(reversed(chunk)), records[::-1])
+        self.assertIn(b"bc", chunk)
+        self.assertEqual(chunk, same)
+        self.assertNotEqual(chunk, records)
+        (other,) = Reader(self.written([*records, b""])).chunks()
+        self.assertNotEqual(chunk, other)
+
+    def test_a_chunk_is_decoded_once(self):
+        def calls(name):
+            return mock.patch.object(riegeli._library, name, wraps=getattr(riegeli._library, name))
+
+        # Chunks of a long record and of many short ones by turns: the room grows for the first of each.
+        self.written([*[bytes(3 << 20)], *[b""] * 300_000] * 4, chunk=3 << 20)
+        with Reader(self.path) as reader, calls("riegeli_read_chunk") as read:
+            self.assertEqual([len(it) for it in reader.chunks()], [1, 300_000] * 4)
+            self.assertEqual(read.call_count, 1 + 8 + 2)
+        self.written([bytes(100_000)])
+        with Reader(self.path) as reader, calls("riegeli_seek") as seek, calls("riegeli_find") as find:
+            self.assertEqual(len(reader.at(0).record), len(reader.find(b"").record))
+            self.assertEqual((seek.call_count, find.call_count), (1, 1))
 
     def test_a_file_in_memory(self):
         data = self.written(LETTERS).read_bytes()
@@ -115,6 +149,7 @@ class Reading(Case):
             with self.refused(108, Reason.HeaderHash):
                 reader.verify()
         fault = pickle.loads(pickle.dumps(Fault(108, 3)))
+        self.assertIsInstance(fault, riegeli.Error)
         self.assertEqual((str(fault), fault.reason), ("refused 108 HeaderHash", Reason.HeaderHash))
 
     def test_chunks_that_are_not_read(self):
@@ -154,12 +189,14 @@ class Reading(Case):
             self.assertEqual(reader.find(b"1"), None)
             self.assertEqual(reader.at(2**64 - 1), None)
             self.assertEqual(reader.find(bytearray(b""))[:2], items[0])
-            for number in -1, 2**64:
-                for call in reader.at, reader.split, lambda it: next(reader.chunks(it)):
-                    with self.assertRaises(ValueError):
-                        call(number)
+            calls = reader.at, reader.split, lambda it: next(reader.chunks(it)), lambda it: next(reader.chunks(0, it))
+            for kind, numbers in (ValueError, (-1, 2**64)), (TypeError, (1.5, 64.0, "64")):
+                for number in numbers:
+                    for call in calls:
+                        with self.assertRaises(kind):
+                            call(number)
             for key in "text", 3, None, [b"a"]:
-                with self.assertRaises(TypeError):
+                with self.assertRaisesRegex(TypeError, rf"\Aa bytes-like object is required, not '{type(key).__name__}'"):
                     reader.find(key)
 
     def test_a_long_record_is_found(self):
@@ -184,7 +221,9 @@ class Reading(Case):
 
     def test_what_cannot_be_opened(self):
         for path in self.folder / "none", self.folder:
-            with self.assertRaises((OSError, ValueError)):
+            with self.assertRaises(OSError) as caught, open(path, "rb"):
+                pass
+            with self.assertRaisesRegex(type(caught.exception), re.escape(str(caught.exception))):
                 Reader(path)
         os.mkfifo(self.folder / "pipe")
         with self.assertRaisesRegex(ValueError, "no regular file"):
@@ -203,6 +242,17 @@ class Reading(Case):
             with self.assertRaisesRegex(ValueError, "closed"):
                 call()
         self.assertEqual(os.listdir(self.folder), ["x.riegeli"])
+
+    def test_a_copy_by_pickle(self):
+        reader = Reader(os.path.relpath(self.written(LETTERS)))
+        copies = [pickle.dumps(it) for it in (reader, Reader.over(memoryview(self.path.read_bytes())))]
+        self.addCleanup(os.chdir, os.getcwd())
+        os.chdir("/")
+        for it in copies:
+            self.assertEqual(list(pickle.loads(it)), LETTERS)
+        reader.close()
+        with self.assertRaisesRegex(ValueError, "closed"):
+            pickle.dumps(reader)
 
     def test_nothing_stays_mapped(self):
         self.written(LETTERS)
@@ -260,6 +310,14 @@ class Reading(Case):
 
 
 class Damage(Case):
+    def test_find_behind_a_wrong_block_header(self):
+        self.written(LETTERS)
+        self.changed(8)
+        with Reader(self.path) as reader:
+            self.assertEqual(reader.find(b"b"), (65, b"b", 64))
+            with self.refused(0, Reason.BlockHeader):
+                reader.at(65)
+
     def test_recover(self):
         self.written(LETTERS, chunk=1)
         self.changed(151)
@@ -283,8 +341,15 @@ class Damage(Case):
         self.assertEqual((str(stopped.exception), to.stat().st_size), ("stopped 108 152 DataHash", 108))
         self.assertEqual(riegeli.repair(self.path, to, most=44).bytes, 152)
         self.assertEqual(sorted(os.listdir(self.folder)), ["x.riegeli", "y.riegeli"])
+        os.symlink("x.riegeli", self.folder / "link")
         with self.assertRaisesRegex(ValueError, "is the file that is read"):
-            riegeli.repair(self.path, os.path.join(self.folder, ".", "x.riegeli"))
+            riegeli.repair(self.path, self.folder / "link")
+        with Reader(self.path) as reader:
+            self.path.rename(self.folder / "moved")
+            with self.assertRaisesRegex(ValueError, "is the file that is read"):
+                reader.repair(self.folder / "moved")
+            self.written(LETTERS)
+            self.assertEqual(reader.repair(self.path).bytes, 152)
 
     def test_a_repair_of_many_regions(self):
         self.written([b"%d" % i for i in range(5000)], chunk=1)
@@ -306,6 +371,10 @@ class Damage(Case):
         with self.assertRaises(OSError):
             riegeli.repair(self.path, self.folder / "y")
         self.assertEqual(sorted(os.listdir(self.folder)), ["x.riegeli", "y"])
+        os.mkfifo(self.folder / "pipe")
+        with subprocess.Popen(["cat", self.folder / "pipe"]), self.assertRaises(OSError):
+            riegeli.repair(self.path, self.folder / "pipe")
+        self.assertTrue((self.folder / "pipe").is_fifo())
 
 
 class Writing(Case):
@@ -317,10 +386,26 @@ class Writing(Case):
         with Writer(self.folder / "y") as writer:
             for record in records:
                 writer.write(record)
-            self.assertGreater((self.folder / "y").stat().st_size, 3 << 20)
+            (made,) = self.folder.glob("y.*.new")
+            self.assertGreater(made.stat().st_size, 3 << 20)
         self.assertEqual((self.folder / "y").read_bytes(), self.path.read_bytes())
         with Reader(self.path) as reader:
             self.assertEqual(list(reader), records)
+
+    def test_flush(self):
+        with Writer(self.path, chunk=100) as writer:
+            writer.write_all([bytes(100)] * 3)
+            (made,) = self.folder.glob("x.riegeli.*.new")
+            self.assertEqual(made.stat().st_size, 0)
+            writer.flush()
+            with Reader(made) as reader:
+                self.assertEqual(list(reader), [bytes(100)] * 2)
+            writer.flush()
+            writer.write(b"a")
+        with self.assertRaisesRegex(ValueError, "closed"):
+            writer.flush()
+        with Reader(self.path) as reader:
+            self.assertEqual(list(reader), [*[bytes(100)] * 3, b"a"])
 
     def test_long_records(self):
         records = [b"a" * (1 << 24), b"b", b"c" * (1 << 24), b""]
@@ -351,16 +436,64 @@ class Writing(Case):
                     writer.write(record)
             for record in bytearray(b"a"), memoryview(b"b"):
                 writer.write(record)
+            with self.assertRaises(TypeError):
+                writer.write_all([b"c", "text", b"d"])
+            with self.assertRaises(ZeroDivisionError):
+                writer.write_all(bytes(1 // i) for i in (1, 0))
         with Reader(self.path) as reader:
-            self.assertEqual(list(reader), [b"a", b"b"])
+            self.assertEqual(list(reader), [b"a", b"b", b"c", b"\0"])
 
-    def test_an_error_within_keeps_what_was_written(self):
-        with self.assertRaises(KeyError):
-            with Writer(self.path) as writer:
+    def test_an_error_within_leaves_what_was_there(self):
+        for before in [], ["x.riegeli"]:
+            with self.assertRaises(KeyError):
+                with Writer(self.path) as writer:
+                    writer.write_all([bytes(1 << 20)] * 10)
+                    raise KeyError
+            self.assertEqual(os.listdir(self.folder), before)
+            with self.assertRaisesRegex(ValueError, "closed"):
                 writer.write(b"a")
-                raise KeyError
+            self.written(LETTERS)
+        with Reader(self.path) as reader:
+            self.assertEqual(list(reader), LETTERS)
+
+    def test_a_file_that_is_read_is_replaced(self):
+        self.written([bytes(1 << 20)] * 8)
+        # In another process, which the system would end if the file were emptied.
+        program = f"""
+import riegeli
+records = iter(riegeli.Reader({str(self.path)!r}))
+first = next(records)
+with riegeli.Writer({str(self.path)!r}) as writer:
+    writer.write(b"a")
+assert list(records) == [first] * 7
+"""
+        environment = {**os.environ, "PYTHONPATH": str(Path(riegeli.__file__).parent)}
+        self.assertEqual(subprocess.run([sys.executable, "-c", program], env=environment).returncode, 0)
         with Reader(self.path) as reader:
             self.assertEqual(list(reader), [b"a"])
+
+    def test_a_link_and_a_mode_stay(self):
+        self.written(LETTERS).chmod(0o640)
+        link = self.folder / "link"
+        link.symlink_to("x.riegeli")
+        self.written([b"a"], link)
+        self.assertTrue(link.is_symlink())
+        self.assertEqual(self.path.stat().st_mode & 0o777, 0o640)
+        with Reader(self.path) as reader:
+            self.assertEqual(list(reader), [b"a"])
+
+    def test_a_pipe_is_written(self):
+        os.mkfifo(self.folder / "pipe")
+        with subprocess.Popen(["cat", self.folder / "pipe"], stdout=subprocess.PIPE) as cat:
+            self.written(LETTERS, self.folder / "pipe")
+            self.assertEqual(cat.stdout.read(), self.written(LETTERS).read_bytes())
+        self.assertTrue((self.folder / "pipe").is_fifo())
+
+    def test_what_cannot_be_written(self):
+        for path, kind in (self.folder, IsADirectoryError), (self.folder / "none" / "x", FileNotFoundError):
+            with self.assertRaises(kind) as caught:
+                Writer(path)
+            self.assertEqual(caught.exception.filename, str(path))
 
     def test_after_close(self):
         writer = Writer(self.path)
@@ -376,12 +509,14 @@ class Writing(Case):
             Writer(self.path).write(b"a")
             gc.collect()
         self.assertEqual(len(caught), 1)
-        self.assertRegex(str(caught[0].message), "x.riegeli.* was not closed: 1 records are not in it")
+        self.assertRegex(str(caught[0].message), "x.riegeli.* was not closed, and its file is not made")
+        self.assertEqual(os.listdir(self.folder), [])
         # Also without a filter, and at the end of the process.
         program = f"import riegeli; it = riegeli.Writer({str(self.path)!r}); it.write(b'a')"
         environment = {**os.environ, "PYTHONPATH": str(Path(riegeli.__file__).parent)}
         done = subprocess.run([sys.executable, "-c", program], env=environment, stderr=subprocess.PIPE)
-        self.assertIn(b"was not closed: 1 records are not in it", done.stderr)
+        self.assertIn(b"was not closed, and its file is not made", done.stderr)
+        self.assertEqual(os.listdir(self.folder), [])
 
     def test_a_full_disk(self):
         with self.assertRaises(OSError):
@@ -393,9 +528,10 @@ class Writing(Case):
         with self.assertRaises(OSError):
             writer.write_all([bytes(1 << 20)] * 10)
         for call in lambda: writer.write(b"a"), writer.close:
-            with self.assertRaisesRegex(ValueError, "isn't whole"):
+            with self.assertRaisesRegex(ValueError, "an earlier call of this writer failed"):
                 call()
         writer.close()
+        self.assertTrue(Path("/dev/full").is_char_device())
 
     def test_several_threads_write(self):
         with Writer(self.path, chunk=1000) as writer:
@@ -411,8 +547,32 @@ class Writing(Case):
             self.assertEqual([it for it in read if it.startswith(b"%d " % i)], records[i])
         self.assertEqual(len(read), 80000)
 
+    def test_no_record_is_lost_where_another_thread_closes(self):
+        for _ in range(10):
+            writer, written = Writer(self.path, chunk=10_000), [0] * 4
+
+            def write(i):
+                with contextlib.suppress(ValueError):
+                    while True:
+                        writer.write(b"%d" % i)
+                        written[i] += 1
+
+            threads = [threading.Thread(target=write, args=[i]) for i in range(4)]
+            for thread in threads:
+                thread.start()
+            time.sleep(0.01)
+            writer.close()
+            for thread in threads:
+                thread.join()
+            with Reader(self.path) as reader:
+                records = list(reader)
+            self.assertEqual([records.count(b"%d" % i) for i in range(4)], written)
+
 
 class Module(unittest.TestCase):
+    def test_the_version_is_a_release(self):
+        self.assertRegex(riegeli.__version__, r"\A\d+\.\d+\.\d+\Z")
+
     def test_the_manual_reads(self):
         done = subprocess.run(
             [sys.executable, "-m", "pydoc", "riegeli"], cwd=Path(riegeli.__file__).parent, stdout=subprocess.PIPE, check=True
@@ -424,6 +584,15 @@ class Module(unittest.TestCase):
         environment = {**os.environ, "RIEGELI_LIBRARY": "/none", "PYTHONPATH": str(Path(riegeli.__file__).parent)}
         done = subprocess.run([sys.executable, "-c", "import riegeli"], env=environment, stderr=subprocess.PIPE)
         self.assertIn(b"ImportError: riegeli: the library could not be loaded", done.stderr)
+
+    @unittest.skipUnless(shutil.which("cc"), "cc is not there")
+    def test_an_older_library_is_told(self):
+        with tempfile.TemporaryDirectory() as folder:
+            (Path(folder) / "x.c").write_text("unsigned riegeli_version(void) { return 1; }")
+            subprocess.run(["cc", "-shared", "-o", "x.so", "x.c"], cwd=folder, check=True)
+            environment = {**os.environ, "RIEGELI_LIBRARY": f"{folder}/x.so", "PYTHONPATH": str(Path(riegeli.__file__).parent)}
+            done = subprocess.run([sys.executable, "-c", "import riegeli"], env=environment, stderr=subprocess.PIPE)
+        self.assertRegex(done.stderr, rb"ImportError: riegeli: the library could not be loaded \(.*undefined symbol: riegeli_hash")
 
 
 if __name__ == "__main__":

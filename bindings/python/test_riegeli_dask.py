@@ -3,6 +3,7 @@
 TRY_MEGABYTES says how large their file is. Where RIEGELI_PROGRAM names the program, what was written is joined and shown by it."""
 import hashlib
 import os
+import pickle
 import signal
 import subprocess
 import sys
@@ -98,12 +99,40 @@ class Alone(Case):
         paths = riegeli_dask.write(dask.bag.from_sequence(records, npartitions=12), self.folder / "made", every=7)
         self.assertEqual(sorted(paths), paths)
         self.assertEqual([Path(path).name for path in paths][:2], ["part-00.riegeli", "part-01.riegeli"])
-        self.assertEqual(sorted(os.listdir(self.folder / "made")), [Path(path).name for path in paths])
+        self.assertEqual(sorted(os.listdir(self.folder / "made")), ["_SUCCESS", *[Path(path).name for path in paths]])
         for path in paths:
             self.assertEqual(os.path.getsize(path) % 65536, 0)
         self.assertEqual(riegeli_dask.read(paths).compute(), records)
         with self.assertRaises(FileExistsError):
             riegeli_dask.write(dask.bag.from_sequence(records), self.folder / "made")
+
+    def test_write_over_an_earlier_call(self):
+        made = self.folder / "made"
+        riegeli_dask.write(dask.bag.from_sequence([b"%d" % i for i in range(12)], npartitions=12), made)
+        (made / "another file").touch()
+        # What is written may be read from the files that are replaced.
+        bag = riegeli_dask.read(sorted(made.glob("part-*"))).repartition(npartitions=3)
+        paths = riegeli_dask.write(bag, made, overwrite=True)
+        self.assertEqual(sorted(os.listdir(made)), ["_SUCCESS", "another file", *[Path(path).name for path in paths]])
+        self.assertEqual(riegeli_dask.read(paths).compute(), [b"%d" % i for i in range(12)])
+
+    def test_a_write_that_fails_leaves_what_was_there(self):
+        made = self.folder / "made"
+        records = [b"%d" % i for i in range(100)]
+        wrong = dask.bag.from_sequence([*records, "text"], npartitions=10)
+        with self.assertRaises(riegeli_dask.WriteError) as caught:
+            riegeli_dask.write(wrong, made)
+        error = pickle.loads(pickle.dumps(caught.exception))
+        self.assertEqual((error.partition, type(error.__cause__)), (wrong.npartitions - 1, TypeError))
+        self.assertRegex(str(error), rf"\Apartition {error.partition}: TypeError\(.*'str'")
+        self.assertEqual(os.listdir(made), [])
+        paths = riegeli_dask.write(dask.bag.from_sequence(records, npartitions=5), made)
+        before = sorted(os.listdir(made))
+        with self.assertRaises(riegeli_dask.WriteError) as caught:
+            riegeli_dask.write(riegeli_dask.read(paths).map(lambda it: it[10 - int(it)]), made, overwrite=True)
+        self.assertIsInstance(caught.exception.__cause__, IndexError)
+        self.assertEqual(sorted(os.listdir(made)), before)
+        self.assertEqual(riegeli_dask.read(paths).compute(), records)
 
 
 class Cluster(Case):
@@ -123,7 +152,7 @@ class Cluster(Case):
             def kill():
                 """Kills two of the four workers: one once two files are made, and another one once six are."""
                 for process, files in zip(sorted(client.run(os.getpid).values()), (2, 6)):
-                    while len(list(self.folder.glob("made/part-*"))) < files:
+                    while len(list(self.folder.glob("made/.*/part-*.riegeli"))) < files:
                         time.sleep(0.01)
                     os.kill(process, signal.SIGKILL)
                     killed.append(process)
@@ -132,7 +161,7 @@ class Cluster(Case):
             killer.start()
             made = riegeli_dask.write(bag.map(slowly), self.folder / "made")
         self.assertEqual((len(killed), len(made)), (2, 16))
-        self.assertEqual(sorted(os.listdir(self.folder / "made")), [os.path.basename(name) for name in made])
+        self.assertEqual(sorted(os.listdir(self.folder / "made")), ["_SUCCESS", *[os.path.basename(name) for name in made]])
         read = (record for name in made for record in riegeli.Reader(name))
         for i, record in enumerate(read):
             self.assertEqual(record, b"%0100d" % i)

@@ -1,9 +1,9 @@
-//! Finds libriegeli.a: in the folder that RIEGELI_LIBRARY names, where `bindings/c/build` makes it, or by pkg-config.
+//! Finds libriegeli: RIEGELI_LIBRARY names it or the folder of libriegeli.a, `bindings/c/build` makes it, or pkg-config knows.
 use std::env;
 use std::path::PathBuf;
 use std::process::Command;
 
-fn folder() -> PathBuf {
+fn named() -> PathBuf {
     if let Some(named) = env::var_os("RIEGELI_LIBRARY") {
         return named.into();
     }
@@ -16,12 +16,16 @@ fn folder() -> PathBuf {
 }
 
 fn main() {
-    let archive = folder().join("libriegeli.a");
-    if !archive.exists() {
-        panic!("libriegeli.a was not found: bindings/c/build makes it, and RIEGELI_LIBRARY says in which folder it is");
+    let mut library = named();
+    if library.is_dir() {
+        library.push("libriegeli.a");
     }
+    let Ok(library) = library.canonicalize() else {
+        panic!("{} is not there: bindings/c/build makes it, and RIEGELI_LIBRARY says where it is", library.display());
+    };
+    let kind = if library.extension().is_some_and(|it| it == "a") { "static" } else { "dylib" };
     println!("cargo:rerun-if-env-changed=RIEGELI_LIBRARY");
-    println!("cargo:rerun-if-changed={}", archive.display());
-    println!("cargo:rustc-link-search=native={}", archive.parent().unwrap().display());
-    println!("cargo:rustc-link-lib=static=riegeli");
+    println!("cargo:rerun-if-changed={}", library.display());
+    println!("cargo:rustc-link-search=native={}", library.parent().unwrap().display());
+    println!("cargo:rustc-link-lib={kind}:+verbatim={}", library.file_name().unwrap().to_string_lossy());
 }

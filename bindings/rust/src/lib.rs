@@ -2,7 +2,7 @@
 //!
 //! ```
 //! let mut file = Vec::new();
-//! let mut writer = riegeli::Writer::new(&mut file, riegeli::Options::default());
+//! let mut writer = riegeli::Writer::new(&mut file, riegeli::Options::default())?;
 //! for line in ["one", "two", "three"] {
 //!     writer.write(line.as_bytes())?;
 //! }
@@ -18,6 +18,8 @@
 //! The promises of the calls are proved, and `docs/LIBRARY.md` of the repository tells them; this crate is only tested. A file
 //! that is too large to be read at once can be mapped, by a crate for that: nobody may change it meanwhile.
 
+#![warn(missing_docs)]
+
 pub mod sys;
 
 mod reader;
@@ -29,21 +31,35 @@ pub use writer::{Options, Pad, Writer};
 
 use std::fmt;
 use std::io;
+use std::sync::Arc;
 
-/// Why reading stops, or bytes are passed over.
+/// Why reading stops, or bytes are passed over, in the order in which reasons are judged.
 #[derive(Clone, Copy, Debug, PartialEq, Eq)]
+#[non_exhaustive]
 pub enum Reason {
+    /// The file doesn't begin with the 64 bytes that each record file begins with.
     NoSignature = 1,
+    /// Fewer bytes are left than a chunk header has.
     Short,
+    /// The chunk header has another hash than it says.
     HeaderHash,
+    /// The file ends within the chunk.
     Truncated,
+    /// The chunk has too much data to be loaded.
     TooLarge,
+    /// A block header within the chunk is wrong.
     BlockHeader,
+    /// The data has another hash than the chunk header says.
     DataHash,
+    /// The data isn't what the chunk header says, or can't be decoded.
     Contents,
+    /// The chunk is compressed.
     Compressed,
+    /// The chunk is transposed.
     Transposed,
+    /// The chunk is of a kind that isn't known.
     UnknownKind,
+    /// Block headers tell of other chunks than this one.
     Contradicted,
 }
 
@@ -68,10 +84,17 @@ impl Reason {
     }
 }
 
-#[derive(Debug)]
+/// Why a call of a reader or a writer failed.
+#[derive(Clone, Debug)]
+#[non_exhaustive]
 pub enum Error {
-    /// The file has a fault at the byte `place`.
-    Fault { place: u64, reason: Reason },
+    /// The file has a fault.
+    Fault {
+        /// Where its chunk begins, or for a wrong block header where its block begins.
+        place: u64,
+        /// What is wrong there.
+        reason: Reason,
+    },
     /// A repair ended at a region of more bytes than may be passed over.
     Stopped(Region),
     /// What was asked for can't be: a file of more than 2^60 bytes, a place where no chunk can begin, options out of range.
@@ -79,7 +102,7 @@ pub enum Error {
     /// There is too little memory.
     Memory,
     /// A file could not be written.
-    Io(io::Error),
+    Io(Arc<io::Error>),
 }
 
 impl fmt::Display for Error {
@@ -94,11 +117,18 @@ impl fmt::Display for Error {
     }
 }
 
-impl std::error::Error for Error {}
+impl std::error::Error for Error {
+    fn source(&self) -> Option<&(dyn std::error::Error + 'static)> {
+        match self {
+            Error::Io(error) => Some(&**error),
+            _ => None,
+        }
+    }
+}
 
 impl From<io::Error> for Error {
     fn from(error: io::Error) -> Error {
-        Error::Io(error)
+        Error::Io(Arc::new(error))
     }
 }
 
@@ -112,6 +142,13 @@ fn error_of(status: u32, fault: &sys::Fault) -> Error {
         sys::MEMORY => Error::Memory,
         _ => Error::Argument,
     }
+}
+
+/// Panics where the library has another version than the header that `sys` repeats, since its structs may have other fields.
+fn check_version() {
+    // SAFETY: this function has stayed the same in each version.
+    let version = unsafe { sys::riegeli_version() };
+    assert_eq!(version, sys::VERSION, "the version of libriegeli, and the one that the crate riegeli is for");
 }
 
 /// HighwayHash-64 of bytes under the key of the format.

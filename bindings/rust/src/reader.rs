@@ -1,4 +1,4 @@
-use crate::{error_of, sys, Error, Reason, Totals};
+use crate::{check_version, error_of, sys, Error, Reason, Totals};
 
 /// A file whose bytes are in memory.
 #[derive(Clone, Copy, Debug)]
@@ -19,52 +19,67 @@ pub struct Chunk {
     pub ends: Vec<u64>,
 }
 
+/// A record of a file.
 #[derive(Clone, Debug, PartialEq, Eq)]
 pub struct Record {
+    /// Where its chunk begins, and as many more as there are records before it in that.
     pub position: u64,
+    /// What the record holds.
     pub bytes: Vec<u8>,
 }
 
 /// A record that was found, and where its chunk begins.
 #[derive(Clone, Debug, PartialEq, Eq)]
 pub struct Found {
+    /// Its position.
     pub position: u64,
+    /// Where its chunk begins.
     pub begin: u64,
+    /// What the record holds.
     pub bytes: Vec<u8>,
 }
 
 /// Bytes that are passed over.
 #[derive(Clone, Copy, Debug, PartialEq, Eq)]
 pub struct Region {
+    /// Where they begin.
     pub begin: u64,
+    /// Where they end.
     pub end: u64,
+    /// Why no chunk is found there.
     pub reason: Reason,
 }
 
 /// What reading past damage meets.
 #[derive(Clone, Debug, PartialEq, Eq)]
 pub enum Piece {
+    /// A chunk that is intact.
     Records(Chunk),
+    /// Bytes that are passed over.
     Skipped(Region),
 }
 
 /// A repaired file.
 #[derive(Clone, Debug, PartialEq, Eq)]
 pub struct Repaired {
+    /// The bytes of the file.
     pub file: Vec<u8>,
     /// A line `skipped BEGIN END REASON` for each region that is passed over.
     pub lines: String,
 }
 
 impl Chunk {
+    /// How many records there are.
     pub fn len(&self) -> usize {
         self.ends.len()
     }
 
+    /// Whether there is none.
     pub fn is_empty(&self) -> bool {
         self.ends.is_empty()
     }
 
+    /// The records, of which none is copied.
     pub fn iter(&self) -> impl Iterator<Item = &[u8]> {
         let mut begin = 0;
         self.ends.iter().map(move |&end| {
@@ -86,6 +101,7 @@ impl Chunk {
 impl<'a> Reader<'a> {
     /// A reader of a file. Nothing of it is judged yet.
     pub fn new(file: &'a [u8]) -> Reader<'a> {
+        check_version();
         Reader { file }
     }
 
@@ -120,7 +136,7 @@ impl<'a> Reader<'a> {
             reader: *self,
             at: begin,
             end: end.min(self.file.len() as u64),
-            rooms: Rooms::default(),
+            rooms: Rooms::new(self.file.len()),
             has_ended: false,
         }
     }
@@ -130,7 +146,7 @@ impl<'a> Reader<'a> {
         Recovered {
             reader: *self,
             at: 0,
-            rooms: Rooms::default(),
+            rooms: Rooms::new(self.file.len()),
             has_ended: false,
         }
     }
@@ -196,17 +212,16 @@ impl<'a> Reader<'a> {
     }
 
     fn found(&self, find: impl Fn(&mut sys::Found, &mut [u8], &mut sys::Fault) -> u32) -> Result<Option<Found>, Error> {
-        let mut value = vec![0; 4096];
+        let mut value = vec![0; self.file.len().min(1 << 20)];
         loop {
             let (mut found, mut fault) = Default::default();
             let status = find(&mut found, &mut value, &mut fault);
             match status {
                 sys::DONE => {
-                    value.truncate(found.bytes as usize);
                     return Ok(Some(Found {
                         position: found.position,
                         begin: found.begin,
-                        bytes: value,
+                        bytes: value[..found.bytes as usize].to_vec(),
                     }));
                 }
                 sys::ROOM => value = vec![0; found.bytes as usize],
@@ -238,17 +253,28 @@ fn region_of(begin: u64, end: u64, why: u32) -> Region {
     }
 }
 
-/// Room for the records of a chunk.
-#[derive(Debug, Default)]
+/// Room for the records of a chunk: by doubling, since a chunk that doesn't fit is decoded twice.
+#[derive(Debug)]
 struct Rooms {
     values: Vec<u8>,
     ends: Vec<u64>,
 }
 
 impl Rooms {
+    fn new(size: usize) -> Rooms {
+        Rooms {
+            values: vec![0; size.min(1 << 20)],
+            ends: vec![0; size.min(1 << 17)],
+        }
+    }
+
     fn grow(&mut self, bytes: u64, records: u64) {
-        self.values.resize(self.values.len().max(bytes as usize), 0);
-        self.ends.resize(self.ends.len().max(records as usize), 0);
+        if bytes as usize > self.values.len() {
+            self.values = vec![0; bytes.next_power_of_two() as usize];
+        }
+        if records as usize > self.ends.len() {
+            self.ends = vec![0; records.next_power_of_two() as usize];
+        }
     }
 
     fn chunk(&self, begin: u64, end: u64, bytes: u64, records: u64) -> Chunk {

@@ -1,4 +1,5 @@
 //! What `riegeli.h` declares. Its manual, `docs/LIBRARY.md`, says what each call promises and what its caller has to see to.
+#![allow(missing_docs)]
 
 pub const VERSION: u32 = 1;
 
@@ -21,12 +22,17 @@ pub struct Fault {
     pub why: u32,
 }
 
+/// What a file holds.
 #[repr(C)]
 #[derive(Clone, Copy, Debug, Default)]
 pub struct Totals {
+    /// How many chunks, the signature among them.
     pub chunks: u64,
+    /// How many records that can be read.
     pub records: u64,
+    /// How many bytes, not of the records alone.
     pub bytes: u64,
+    /// How many chunks that are compressed or transposed.
     pub unread: u64,
 }
 

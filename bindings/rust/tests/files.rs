@@ -1,7 +1,10 @@
 use riegeli::{Error, Options, Pad, Piece, Reader, Reason, Region, Writer};
+use std::error::Error as _;
+use std::io::{self, ErrorKind, Write};
+use std::panic::{catch_unwind, AssertUnwindSafe};
 
 fn file_of(records: &[&[u8]], options: Options) -> Vec<u8> {
-    let mut writer = Writer::new(Vec::new(), options);
+    let mut writer = Writer::new(Vec::new(), options).unwrap();
     for record in records {
         writer.write(record).unwrap();
     }
@@ -107,19 +110,74 @@ fn a_file_without_bytes_has_a_fault() {
 
 #[test]
 fn options_out_of_range_are_refused() {
-    let options = Options { chunk: 0, ..Options::default() };
-    assert!(matches!(Writer::new(Vec::new(), options).finish(), Err(Error::Argument)));
+    let whole = Options::default();
+    for (chunk, every) in [(0, None), ((1 << 24) + 1, None), (1, Some(0)), (1, Some((1 << 24) + 1))] {
+        let options = Options { chunk, every, ..whole };
+        assert!(matches!(Writer::new(Vec::new(), options), Err(Error::Argument)));
+    }
+    let largest = Options { chunk: 1 << 24, every: Some(1 << 24), ..whole };
+    assert_eq!(file_of(&[], largest).len(), 64);
+}
+
+#[test]
+fn a_writer_that_is_dropped_writes_what_it_held() {
+    let mut file = Vec::new();
+    let mut writer = Writer::new(&mut file, Options::default()).unwrap();
+    writer.write(b"a").unwrap();
+    drop(writer);
+    assert_eq!(records_of(Reader::new(&file)), [b"a"]);
+}
+
+#[test]
+fn an_error_of_writing_is_the_source() {
+    let error = Error::from(io::Error::from(ErrorKind::StorageFull));
+    let source = error.source().unwrap().downcast_ref::<io::Error>().unwrap();
+    assert_eq!(source.kind(), ErrorKind::StorageFull);
+    assert!(Error::Memory.source().is_none());
 }
 
 #[test]
 fn a_record_that_is_too_long_is_left_out() {
-    let mut writer = Writer::new(Vec::new(), Options::default());
+    let mut writer = Writer::new(Vec::new(), Options::default()).unwrap();
     writer.write(b"a").unwrap();
     assert!(matches!(writer.write(&vec![0; (1 << 24) + 1]), Err(Error::Argument)));
     writer.write(b"b").unwrap();
     writer.write(&vec![0; 1 << 24]).unwrap();
     let file = writer.finish().unwrap();
     assert_eq!(records_of(Reader::new(&file)), [b"a".to_vec(), b"b".to_vec(), vec![0; 1 << 24]]);
+}
+
+/// Fails once, in the middle of a chunk, and takes all else.
+struct FailsOnce {
+    taken: usize,
+    panics: bool,
+}
+
+impl Write for FailsOnce {
+    fn write(&mut self, bytes: &[u8]) -> io::Result<usize> {
+        let is_before = self.taken < 500_000;
+        self.taken += bytes.len().min(1000);
+        if is_before && self.taken >= 500_000 {
+            assert!(!self.panics);
+            return Err(ErrorKind::WouldBlock.into());
+        }
+        Ok(bytes.len().min(1000))
+    }
+
+    fn flush(&mut self) -> io::Result<()> {
+        Ok(())
+    }
+}
+
+#[test]
+fn after_a_failure_each_call_gives_it() {
+    for (panics, kind) in [(false, ErrorKind::WouldBlock), (true, ErrorKind::Other)] {
+        let mut writer = Writer::new(FailsOnce { taken: 0, panics }, Options::default()).unwrap();
+        let write = || (0..10_000).try_for_each(|_| writer.write(&[0; 1000]));
+        assert!(!matches!(catch_unwind(AssertUnwindSafe(write)), Ok(Ok(()))));
+        assert!(matches!(writer.write(b"a"), Err(Error::Io(it)) if it.kind() == kind));
+        assert!(matches!(writer.finish(), Err(Error::Io(it)) if it.kind() == kind));
+    }
 }
 
 #[test]
